@@ -1,0 +1,61 @@
+-- Laws of the loops over rows, one row at a time: holders counted, the place of a serial, the best tick so far.
+-- Assumes nothing.
+use mathlib.Core.Path.{_≡_, refl, sym, ap, _∙_}
+use mathlib.Core.Bool.{cond}
+use mathlib.Core.List.{List, [], _∷_}
+use Prim.Native.Nat.{ℕ, zero, suc, _+_, _-_, _≤_, _<_, max}
+use native.Mathlib.Omega.{arith}
+use lib.Dec.{eqb}
+use Rattle.forms.specs.Field.{field}
+use Rattle.evidence.specs.Ticks.{Held, holds}
+use Rattle.evidence.specs.Rows.{Row, rowSize, setOf, setPlace, setAt, rowAt, rowsAt}
+use Rattle.evidence.specs.Holders.{holders, bestOf, bestAmong, oneOn, placeOf}
+use Rattle.evidence.proofs.Layouts.{rows-down, set-of-row}
+
+module _ (mb n : ℕ) (b : List ℕ) (i : ℕ) where
+  pub holders-down : (w kind t : ℕ) → 0 < n → holders w kind t (rowsAt mb n b i) ≡ holds w (setAt mb b (i + setPlace mb kind)) t + holders w kind t (rowsAt mb (n - 1) b (i + rowSize mb))
+  unfolding holders
+  holders-down w kind t p =
+      ap (holders w kind t) (rows-down mb n b i p) ∙ ap (λ (s : Held). holds w s t + holders w kind t (rowsAt mb (n - 1) b (i + rowSize mb))) (set-of-row mb kind b i)
+
+  pub among-down : (w kind m low : ℕ) (all : List Row) → 0 < n → bestAmong w kind m low all (rowsAt mb n b i) ≡ max (bestOf w kind m low all (setAt mb b (i + setPlace mb kind))) (bestAmong w kind m low all (rowsAt mb (n - 1) b (i + rowSize mb)))
+  unfolding bestAmong
+  among-down w kind m low all p =
+      ap (bestAmong w kind m low all) (rows-down mb n b i p)
+      ∙ ap (λ (s : Held). max (bestOf w kind m low all s) (bestAmong w kind m low all (rowsAt mb (n - 1) b (i + rowSize mb)))) (set-of-row mb kind b i)
+
+  pub place-down : (serial : ℕ) → 0 < n → placeOf serial (rowsAt mb n b i) ≡ cond (eqb (field 4 b i) serial) 1 (oneOn (placeOf serial (rowsAt mb (n - 1) b (i + rowSize mb))))
+  unfolding placeOf rowAt
+  place-down serial p = ap (placeOf serial) (rows-down mb n b i p)
+
+-- no rows are left
+none-left : (mb n : ℕ) (b : List ℕ) (i : ℕ) → n ≡ 0 → rowsAt mb n b i ≡ []
+unfolding rowsAt
+none-left mb zero b i e = refl
+none-left mb (suc n) b i e = absurd (omega arith)
+
+pub holders-end : (w kind t mb n : ℕ) (b : List ℕ) (i : ℕ) → n ≡ 0 → holders w kind t (rowsAt mb n b i) ≡ 0
+unfolding holders
+holders-end w kind t mb n b i e = ap (holders w kind t) (none-left mb n b i e)
+
+pub among-end : (w kind m low : ℕ) (all : List Row) (mb n : ℕ) (b : List ℕ) (i : ℕ) → n ≡ 0 → bestAmong w kind m low all (rowsAt mb n b i) ≡ 0
+unfolding bestAmong
+among-end w kind m low all mb n b i e = ap (bestAmong w kind m low all) (none-left mb n b i e)
+
+pub place-end : (serial mb n : ℕ) (b : List ℕ) (i : ℕ) → n ≡ 0 → placeOf serial (rowsAt mb n b i) ≡ 0
+unfolding placeOf
+place-end serial mb n b i e = ap (placeOf serial) (none-left mb n b i e)
+
+-- ---- a place k rows further on
+
+abbrev pub further : ℕ → ℕ → ℕ
+further k zero = 0
+further k (suc p) = suc (k + p)
+
+pub further-none : (p : ℕ) → further 0 p ≡ p
+further-none zero = refl
+further-none (suc p) = omega arith
+
+pub further-one : (k p : ℕ) → further k (oneOn p) ≡ further (k + 1) p
+further-one k zero = refl
+further-one k (suc p) = omega arith

@@ -1,0 +1,12 @@
+-- The laws and theorems of `evidence` that belong to no single function.
+mod Examples
+pub mod Added
+pub mod Columns
+pub mod Credits
+pub mod Down
+pub mod Greatest
+pub mod Histories
+pub mod Layouts
+pub mod Masks
+pub mod Members
+pub mod Orders

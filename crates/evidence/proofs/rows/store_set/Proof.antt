@@ -1,0 +1,33 @@
+-- `rows::store_set` meets its contract: its two fields are written where they stand.
+-- Assumes nothing.
+use borrow.Author.Needs.{needs}
+use mathlib.Core.Path.{_≡_, sym, ap, _∙_}
+use mathlib.Core.List.{List}
+use Prim.Native.Nat.{ℕ, _+_}
+use denote.Ref.{now}
+use Rattle.forms.specs.Field.{putField}
+use Rattle.evidence.specs.Rows.{putSet}
+use Rattle.evidence.proofs.rows.store_set.Statement.{statement}
+use Rattle.evidence.proofs.rows.store_set.Tie as tie
+
+put-word-requires : tie.Need-put-word-requires
+put-word-requires c κs = search needs
+
+add-put-long : tie.Need-add-put-long
+add-put-long c = search needs
+
+put-long-requires : tie.Need-put-long-requires
+put-long-requires c κs = search needs
+
+same-length : tie.Need-same-length
+same-length c = search needs
+
+returns : tie.Need-returns
+unfolding putSet
+returns c =
+    let a = c .before .before .before .before .before .before .before .before .before .args in
+    c .before .before .put-long .ensures ∙ ap (λ (l : List ℕ). putField 8 l (a .i + 4) (a .s .mask)) (c .before .before .before .before .before .before .put-word .ensures)
+
+pub store-set-spec : {M : Type 1} → statement M
+store-set-spec =
+    tie.close (tie.spec put-word-requires add-put-long put-long-requires same-length returns)

@@ -1,0 +1,65 @@
+-- Rows as they lie in an image's bytes (01, "Layouts"): serial (4), echo top (4), echo mask, init top (4), init mask; and the
+-- update of a row by a frame. How many bytes a mask has, mb, is a parameter of every definition, so that an image with
+-- wider masks is another value of the same layout.
+use Prim.Native.Nat.{ℕ, zero, suc, _+_, _*_}
+use mathlib.Core.List.{List, [], _∷_, map}
+use mathlib.Core.Bool.{cond}
+use lib.Dec.{eqb}
+use Rattle.forms.specs.Field.{field, putField}
+use Rattle.evidence.specs.Ticks.{Held, add}
+
+-- what is held from one sender
+pub record Row : Type 0 where
+  pub serial : ℕ
+  pub echo : Held
+  pub init : Held
+
+abbrev pub rowSize : ℕ → ℕ
+rowSize mb = 12 + 2 * mb
+
+-- the set of a kind (2 echo, 1 init), and where in its row it stands
+unfoldable pub setOf : ℕ → Row → Held
+setOf kind row = cond (eqb kind 2) (row .echo) (row .init)
+
+unfoldable pub setPlace : ℕ → ℕ → ℕ
+setPlace mb kind = cond (eqb kind 2) 4 (8 + mb)
+
+-- ---- bytes to rows
+
+unfoldable pub setAt : ℕ → List ℕ → ℕ → Held
+setAt mb b i = record { top = field 4 b i; mask = field mb b (i + 4) }
+
+unfoldable pub rowAt : ℕ → List ℕ → ℕ → Row
+rowAt mb b i = record { serial = field 4 b i; echo = setAt mb b (i + 4); init = setAt mb b (i + (8 + mb)) }
+
+-- the n rows from place i on
+unfoldable pub rowsAt : ℕ → ℕ → List ℕ → ℕ → List Row
+rowsAt mb zero b i = []
+rowsAt mb (suc n) b i = rowAt mb b i ∷ rowsAt mb n b (i + rowSize mb)
+
+-- ---- rows to bytes
+
+unfoldable pub putSet : ℕ → List ℕ → ℕ → Held → List ℕ
+putSet mb b i s = putField mb (putField 4 b i (s .top)) (i + 4) (s .mask)
+
+unfoldable pub putRow : ℕ → List ℕ → ℕ → Row → List ℕ
+putRow mb b i row = putSet mb (putSet mb (putField 4 b i (row .serial)) (i + 4) (row .echo)) (i + (8 + mb)) (row .init)
+
+unfoldable pub putRows : ℕ → List ℕ → ℕ → List Row → List ℕ
+putRows mb b i [] = b
+putRows mb b i (row ∷ rows) = putRows mb (putRow mb b i row) (i + rowSize mb) rows
+
+-- ---- the rows after a frame
+
+unfoldable pub creditRow : ℕ → ℕ → ℕ → Row → Row
+creditRow w kind j row =
+    cond (eqb kind 2)
+    (record { serial = row .serial; echo = add w kind (row .echo) j; init = row .init })
+    (record { serial = row .serial; echo = row .echo; init = add w kind (row .init) j })
+
+-- the frame (kind, j) credited to the sender with this serial, wherever its row stands
+unfoldable pub creditOf : ℕ → ℕ → ℕ → ℕ → Row → Row
+creditOf w serial kind j row = cond (eqb (row .serial) serial) (creditRow w kind j row) row
+
+unfoldable pub credit : ℕ → ℕ → ℕ → ℕ → List Row → List Row
+credit w serial kind j rows = map (creditOf w serial kind j) rows

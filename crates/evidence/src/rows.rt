@@ -1,0 +1,139 @@
+// Rows as they lie in an image's bytes, looked at and updated where they lie: nothing is unpacked. Each function takes the whole
+// buffer and the place i where the rows begin. These are joints between layers: each asks that its rows lie inside the buffer
+// and that the window fits a mask, which the node has checked before.
+use crate::ticks::Ticks;
+use forms::field::long;
+use forms::field::put_long;
+use forms::field::put_word;
+use forms::field::word;
+ghost use mathlib.Core.Path.{_≡_};
+ghost use Prim.Native.Nat.{_+_, _*_, _≤_, _<_, max};
+ghost use lib.ListN.{length};
+ghost use Rattle.forms.specs.Field.{words};
+ghost use Rattle.forms.specs.Roster.{count};
+ghost use Rattle.evidence.specs.Holders.{holders, greatest, placeOf, foundBy, bestOf};
+ghost use Rattle.evidence.specs.Rows.{setPlace, setAt, putSet, rowsAt, putRows, credit};
+ghost use Rattle.evidence.specs.Sets.{heldBy};
+
+// Bytes of a row: serial, then top and mask of the echo set and of the init set.
+pub const ROW: usize = 28;
+
+// Where in its row the set of a kind stands.
+fn set_place(kind: u32) -> usize
+    ensures { λ r. ⌜ (r ≡ setPlace 8 kind) × (r ≤ 16) ⌝ }
+{
+    if kind == 2 { 4 } else { 16 }
+}
+
+// The set at place i.
+pub fn read_set(b: &[u8], i: usize) -> Ticks
+    requires { ⌜ i + 12 ≤ length (now b) ⌝ }
+    ensures { λ r. ⌜ heldBy r ≡ setAt 8 (now (b .entry)) i ⌝ }
+{
+    Ticks {
+        top: word(b, i),
+        mask: long(b, i + 4),
+    }
+}
+
+// Writes a set at place i.
+pub fn store_set(b: &mut [u8], i: usize, s: Ticks)
+    requires { ⌜ i + 12 ≤ length (now b) ⌝ }
+    ensures { λ _. ⌜ now (b .exit) ≡ putSet 8 (now (b .entry)) i (heldBy s) ⌝ }
+{
+    put_word(b, i, s.top);
+    put_long(b, i + 4, s.mask);
+}
+
+// Where the row of a serial stands among its rows.
+pub enum Found {
+    At(usize),
+    Nowhere,
+}
+
+// The first of the n rows from i on that has this serial.
+pub fn find_row(b: &[u8], i: usize, n: usize, serial: u32) -> Found
+    requires { ⌜ i + n * 28 ≤ length (now b) ⌝ }
+    ensures { λ r. ⌜ foundBy r ≡ placeOf serial (rowsAt 8 n (now (b .entry)) i) ⌝ }
+{
+    let mut k = 0;
+    let mut at = i;
+    while k < n {
+        if word(b, at) == serial {
+            return Found::At(k);
+        }
+        at += ROW;
+        k += 1;
+    }
+    Found::Nowhere
+}
+
+// How many of the n rows from i on hold (kind, t).
+pub fn count_holders(b: &[u8], i: usize, n: usize, kind: u32, w: u32, t: u32) -> usize
+    requires { ⌜ (i + n * 28 ≤ length (now b)) × (w ≤ 64) ⌝ }
+    ensures { λ r. ⌜ (r ≡ holders w kind t (rowsAt 8 n (now (b .entry)) i)) × (r ≤ n) ⌝ }
+{
+    let place = set_place(kind);
+    let mut found: usize = 0;
+    let mut at = i;
+    let mut left = n;
+    while 0 < left {
+        found += read_set(b, at + place).holds(w, t) as usize;
+        at += ROW;
+        left -= 1;
+    }
+    found
+}
+
+// The greatest tick of one set s, as tick + 1, that is above best and that m of the n rows hold; else best. The set's own bit
+// is tested first, and the search ends at the best so far.
+fn better(b: &[u8], i: usize, n: usize, kind: u32, w: u32, m: usize, s: Ticks, best: u64) -> u64
+    requires { ⌜ (i + n * 28 ≤ length (now b)) × (w ≤ 64) ⌝ }
+    ensures { λ r. ⌜ r ≡ max best (bestOf w kind m best (rowsAt 8 n (now (b .entry)) i) (heldBy s)) ⌝ }
+{
+    let mut x = s.top as u64 + 1;
+    let mut left = w;
+    while 0 < left {
+        if x <= best {
+            return best;
+        }
+        let t = (x - 1) as u32;
+        if s.holds(w, t) == 1 {
+            if m <= count_holders(b, i, n, kind, w, t) {
+                return x;
+            }
+        }
+        x -= 1;
+        left -= 1;
+    }
+    best
+}
+
+// The greatest tick of a kind, as tick + 1, that is at least low and that m of the n rows from i on hold; 0 for none.
+pub fn find_greatest(b: &[u8], i: usize, n: usize, kind: u32, w: u32, m: usize, low: u32) -> u64
+    requires { ⌜ (i + n * 28 ≤ length (now b)) × (w ≤ 64) ⌝ }
+    ensures { λ r. ⌜ r ≡ greatest w kind m low (rowsAt 8 n (now (b .entry)) i) ⌝ }
+{
+    let place = set_place(kind);
+    let mut best = low as u64;
+    let mut at = i;
+    let mut left = n;
+    while 0 < left {
+        best = better(b, i, n, kind, w, m, read_set(b, at + place), best);
+        at += ROW;
+        left -= 1;
+    }
+    if (low as u64) < best { best } else { 0 }
+}
+
+// Credits the frame (kind, j) to the row of a serial.
+pub fn credit_row(b: &mut [u8], i: usize, n: usize, w: u32, serial: u32, kind: u32, j: u32)
+    requires { ⌜ (i + n * 28 ≤ length (now b)) × (0 < w) × (w ≤ 64) × (count serial (words n 28 (now b) i) ≤ 1) ⌝ }
+    ensures { λ _. ⌜ now (b .exit) ≡ putRows 8 (now (b .entry)) i (credit w serial kind j (rowsAt 8 n (now (b .entry)) i)) ⌝ }
+{
+    if let Found::At(k) = find_row(b, i, n, serial) {
+        let at = i + ROW * k + set_place(kind);
+        let after = read_set(b, at).after(w, kind, j);
+        store_set(b, at, after);
+    }
+}

@@ -1,0 +1,51 @@
+-- The definitions at work on 01's own examples and edges, computed by the checker: what a reader can compare with the paper.
+-- Assumes nothing.
+use mathlib.Core.Path.{_≡_, refl}
+use Prim.Native.Nat.{ℕ}
+use mathlib.Core.List.{List, [], _∷_}
+use lib.ListN.{replicate}
+use Rattle.forms.specs.Field.{field, putField, words, putWords}
+use Rattle.forms.specs.Roster.{count, twins, rosterNumber}
+use Rattle.forms.specs.Form.{formNumber, formTold, putForm, formWritten}
+use Rattle.forms.specs.Frame.{frameNumber, frameTold, putFrame, frameWritten}
+
+-- the form of 01's whole case
+form : List ℕ
+form = 4 ∷ 1 ∷ 0 ∷ 8 ∷ 0 ∷ 0 ∷ 0 ∷ 11 ∷ 0 ∷ 0 ∷ 0 ∷ 11 ∷ 0 ∷ 0 ∷ 0 ∷ 22 ∷ 0 ∷ 0 ∷ 0 ∷ 33 ∷ 0 ∷ 0 ∷ 0 ∷ 44 ∷ []
+
+taken : formTold form ≡ record { number = 0; lines = 4; faults = 1; own = 11 }
+unfolding form formTold formNumber field words rosterNumber count twins
+taken = refl
+
+written : formWritten 1 11 (11 ∷ 22 ∷ 33 ∷ 44 ∷ []) (replicate 24 9) ≡ record { number = 0; written = 24; out = form }
+unfolding form formWritten putForm putField putWords rosterNumber count twins
+written = refl
+
+no-room : formWritten 1 11 (11 ∷ 22 ∷ 33 ∷ 44 ∷ []) (replicate 23 9) ≡ record { number = 7; written = 0; out = replicate 23 9 }
+unfolding formWritten rosterNumber count twins
+no-room = refl
+
+-- n = 3 with f = 1 is refused, n = 1 with f = 0 is taken; zeros come before twins in either order of lines
+numbers :
+    (rosterNumber 1 5 (5 ∷ 6 ∷ 7 ∷ []) ≡ 2) × (rosterNumber 0 5 (5 ∷ []) ≡ 0) × (rosterNumber 0 5 (5 ∷ 5 ∷ 0 ∷ []) ≡ 3)
+    × (rosterNumber 0 5 (0 ∷ 5 ∷ 5 ∷ []) ≡ 3) × (rosterNumber 0 5 (5 ∷ 6 ∷ 5 ∷ []) ≡ 4) × (rosterNumber 0 5 (7 ∷ 6 ∷ []) ≡ 5)
+    × (rosterNumber 85 5 (5 ∷ []) ≡ 2) × (rosterNumber 0 5 (replicate 33 5) ≡ 2) × (rosterNumber 0 5 [] ≡ 2)
+unfolding rosterNumber count twins
+numbers = (refl, refl, refl, refl, refl, refl, refl, refl, refl)
+
+frame : frameTold 4000000000 (2 ∷ 0 ∷ 0 ∷ 0 ∷ 238 ∷ 107 ∷ 40 ∷ 0 ∷ []) ≡ record { number = 0; kind = 2; tick = 4000000000 }
+unfolding frameTold frameNumber field
+frame = refl
+
+late : frameTold 4000000000 (2 ∷ 0 ∷ 0 ∷ 0 ∷ 238 ∷ 107 ∷ 40 ∷ 1 ∷ []) ≡ record { number = 11; kind = 0; tick = 0 }
+unfolding frameTold frameNumber field
+late = refl
+
+-- nine bytes with a tick too great are 10, not 11
+long : frameNumber 4000000000 (1 ∷ 0 ∷ 0 ∷ 0 ∷ 255 ∷ 255 ∷ 255 ∷ 255 ∷ 0 ∷ []) ≡ 10
+unfolding frameNumber
+long = refl
+
+frame-written : frameWritten 4000000000 2 69 (replicate 9 7) ≡ record { number = 0; written = 8; out = 2 ∷ 0 ∷ 0 ∷ 0 ∷ 0 ∷ 0 ∷ 0 ∷ 69 ∷ 7 ∷ [] }
+unfolding frameWritten putFrame putField
+frame-written = refl

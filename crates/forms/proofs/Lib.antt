@@ -1,0 +1,7 @@
+-- The laws and theorems of `forms` that belong to no single function.
+mod Examples
+pub mod Fields
+pub mod Frames
+pub mod Rosters
+pub mod Told
+pub mod Words

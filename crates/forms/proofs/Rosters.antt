@@ -1,0 +1,124 @@
+-- Laws of a roster, over a column of serials: the walk down the column line by line, and the roster's number case by case.
+-- Assumes nothing.
+use mathlib.Core.Path.{_≡_, refl, ap, _∙_}
+use mathlib.Core.List.{List, [], _∷_}
+use mathlib.Core.Bool.{Bool, true, false, cond, _||_}
+use mathlib.Core.Logic.{_⊎_, inl, inr, ⊎-elim}
+use Prim.Native.Nat.{ℕ, zero, suc, _+_, _-_, _*_, _≤_, _<_}
+use native.Mathlib.Nat.{suc-mul}
+use native.Mathlib.Omega.{arith}
+use lib.ListN.{length, getD}
+use lib.Dec.{ltb, eqb}
+use borrow.Author.Tests.{lt-ltb, le-ltb, ltb-false, eq-eqb, ne-eqb}
+use Rattle.forms.specs.Field.{field, words}
+use Rattle.forms.specs.Roster.{count, twins, rosterNumber}
+
+-- ---- a column of which a line is left is that line, and then the column one line shorter
+
+pub size-step : (n s : ℕ) → 0 < n → n * s ≡ (n - 1) * s + s
+size-step zero s p = omega arith
+size-step (suc n) s p = suc-mul n s ∙ ap (λ (m : ℕ). m * s + s) (omega arith)
+
+pub words-step : (n s : ℕ) (b : List ℕ) (i : ℕ) → 0 < n → words n s b i ≡ field 4 b i ∷ words (n - 1) s b (i + s)
+unfolding words
+words-step zero s b i p = absurd (omega arith)
+words-step (suc n) s b i p = let e : n ≡ suc n - 1 = omega arith in ap (λ (m : ℕ). field 4 b i ∷ words m s b (i + s)) e
+
+pub words-end : (n s : ℕ) (b : List ℕ) (i : ℕ) → n ≤ 0 → words n s b i ≡ []
+unfolding words
+words-end zero s b i p = refl
+words-end (suc n) s b i p = absurd (omega arith)
+
+-- the word on line k
+pub getD-words : (n s : ℕ) (b : List ℕ) (i k : ℕ) → k < n → getD (words n s b i) k 0 ≡ field 4 b (i + k * s)
+unfolding words
+getD-words zero s b i k p = absurd (omega arith)
+getD-words (suc n) s b i zero p = let e : i ≡ i + 0 * s = omega arith in ap (field 4 b) e
+getD-words (suc n) s b i (suc k) p =
+    let e : i + s + k * s ≡ i + suc k * s = omega (arith, suc-mul k s) in
+    getD-words n s b (i + s) k (omega arith) ∙ ap (field 4 b) e
+
+-- ---- counts
+
+pub count-end : (x n s : ℕ) (b : List ℕ) (i : ℕ) → n ≤ 0 → count x (words n s b i) ≡ 0
+unfolding count
+count-end x n s b i p = ap (count x) (words-end n s b i p)
+
+module _ (x n s : ℕ) (b : List ℕ) (i : ℕ) (p : 0 < n) where
+  count-step : count x (words n s b i) ≡ cond (eqb (field 4 b i) x) 1 0 + count x (words (n - 1) s b (i + s))
+  unfolding count
+  count-step = ap (count x) (words-step n s b i p)
+
+  -- the first line holds x
+  pub count-here : field 4 b i ≡ x → count x (words n s b i) ≡ 1 + count x (words (n - 1) s b (i + s))
+  count-here e = rw eq-eqb at count-step
+
+  -- the first line holds something else
+  pub count-past : (field 4 b i ≡ x → ⊥) → count x (words n s b i) ≡ count x (words (n - 1) s b (i + s))
+  count-past ne = rw ne-eqb at count-step ∙ omega arith
+
+-- ---- twins
+
+pub twins-end : (n s : ℕ) (b : List ℕ) (i : ℕ) → n ≤ 0 → twins (words n s b i) ≡ 0
+unfolding twins
+twins-end n s b i p = ap twins (words-end n s b i p)
+
+-- the first line, which holds x, makes a twin of each line behind it that holds x
+pub twins-step : (n s : ℕ) (b : List ℕ) (i x : ℕ) → 0 < n → x ≡ field 4 b i → twins (words n s b i) ≡ count x (words (n - 1) s b (i + s)) + twins (words (n - 1) s b (i + s))
+unfolding twins
+twins-step n s b i x p e = rw e (ap twins (words-step n s b i p))
+
+-- ---- the number of a roster
+
+-- f faults and n lines are within the limits
+abbrev pub Limits : ℕ → ℕ → Type 0
+Limits f n = (1 ≤ n) × (n ≤ 32) × (3 * f + 1 ≤ n)
+
+abbrev beyond : ℕ → ℕ → Bool
+beyond f n = ltb n 1 || ltb 32 n || ltb n (3 * f + 1)
+
+within : (f n : ℕ) → Limits f n → beyond f n ≡ false
+within f n h = rw (le-ltb n 1 (h .0), le-ltb 32 n (h .1), le-ltb n (3 * f + 1) (h .2))
+
+limits : (f n : ℕ) → Limits f n ⊎ (beyond f n ≡ true)
+limits f n = go (ltb n 1) (ltb 32 n) (ltb n (3 * f + 1)) refl refl refl
+  where
+    go : (s t u : Bool) → ltb n 1 ≡ s → ltb 32 n ≡ t → ltb n (3 * f + 1) ≡ u → Limits f n ⊎ (beyond f n ≡ true)
+    go true t u p q r = inr (rw p)
+    go false true u p q r = inr (rw (p, q))
+    go false false true p q r = inr (rw (p, q, r))
+    go false false false p q r = inl (ltb-false n 1 p, ltb-false 32 n q, ltb-false n (3 * f + 1) r)
+
+module _ (f own : ℕ) (serials : List ℕ) where
+  beyond-two : beyond f (length serials) ≡ true → rosterNumber f own serials ≡ 2
+  unfolding rosterNumber
+  beyond-two e = rw e
+
+  pub roster-two : (Limits f (length serials) → ⊥) → rosterNumber f own serials ≡ 2
+  roster-two h = ⊎-elim (λ l. absurd (h l)) (λ e. beyond-two e) (limits f (length serials))
+
+  pub roster-limits : rosterNumber f own serials ≡ 0 → Limits f (length serials)
+  roster-limits z = ⊎-elim (λ l. l) (λ e. absurd (omega (arith, z, beyond-two e))) (limits f (length serials))
+
+  module _ (l : Limits f (length serials)) where
+    pub roster-own : own ≡ 0 → rosterNumber f own serials ≡ 3
+    unfolding rosterNumber count
+    roster-own o = rw (within f (length serials) l, eq-eqb own 0 o, lt-ltb 0 (1 + count 0 serials) (omega arith))
+
+    pub roster-zero : 0 < count 0 serials → rosterNumber f own serials ≡ 3
+    unfolding rosterNumber count
+    roster-zero z =
+        rw (within f (length serials) l, lt-ltb 0 (cond (eqb own 0) 1 0 + count 0 serials) (omega arith))
+
+    module _ (o : own ≡ 0 → ⊥) (z : count 0 serials ≡ 0) where
+      pub roster-twice : 0 < twins serials → rosterNumber f own serials ≡ 4
+      unfolding rosterNumber count
+      roster-twice t = rw (within f (length serials) l, ne-eqb own 0 o, z, lt-ltb 0 (twins serials) t)
+
+      pub roster-stranger : twins serials ≡ 0 → count own serials ≡ 0 → rosterNumber f own serials ≡ 5
+      unfolding rosterNumber count
+      roster-stranger t s = rw (within f (length serials) l, ne-eqb own 0 o, z, t, s)
+
+      pub roster-sound : twins serials ≡ 0 → (count own serials ≡ 0 → ⊥) → rosterNumber f own serials ≡ 0
+      unfolding rosterNumber count
+      roster-sound t s = rw (within f (length serials) l, ne-eqb own 0 o, z, t, ne-eqb (count own serials) 0 s)

@@ -1,0 +1,97 @@
+-- `roster::judge` meets its contract: each test that fails is one case of the roster's number, over a column of which the length is n.
+-- Assumes nothing.
+use borrow.Author.Needs.{needs}
+use mathlib.Core.Path.{_≡_, sym}
+use mathlib.Core.List.{List}
+use Prim.Native.Nat.{ℕ}
+use native.Mathlib.Omega.{arith}
+use denote.Ref.{now}
+use lib.ListN.{length}
+use Rattle.forms.specs.Field.{words}
+use Rattle.forms.specs.Roster.{rosterNumber}
+use Rattle.forms.proofs.Words.{length-words}
+use Rattle.forms.proofs.Rosters.{Limits, roster-two, roster-own, roster-zero, roster-twice, roster-stranger, roster-sound}
+use Rattle.forms.proofs.roster.judge.Statement.{statement}
+use Rattle.forms.proofs.roster.judge.Tie as tie
+
+-- the serials that the contract speaks of
+abbrev serials : tie.Start → List ℕ
+serials c = let a = c .args in words (a .n) (a .stride) (now (a .b)) (a .i)
+
+size : (c : tie.Start) → length (serials c) ≡ c .args .n
+size c = let a = c .args in length-words (a .n) (a .stride) (now (a .b)) (a .i)
+
+-- a test of the limits that fails
+outside : (c : tie.Start) → (Limits (c .args .f) (length (serials c)) → ⊥) → 2 ≡ rosterNumber (c .args .f) (c .args .own) (serials c)
+outside c h = sym (roster-two (c .args .f) (c .args .own) (serials c) h)
+
+returns : tie.Need-returns
+returns c = outside (c .before .before) (omega (arith, size (c .before .before)))
+
+returns-2 : tie.Need-returns-2
+returns-2 c = outside (c .before .before .before) (omega (arith, size (c .before .before .before)))
+
+mul-if3 : tie.Need-mul-if3
+mul-if3 c = search needs
+
+add-if3 : tie.Need-add-if3
+add-if3 c = search needs
+
+returns-3 : tie.Need-returns-3
+returns-3 c = outside (c .before .before .before .before) (omega (arith, size (c .before .before .before .before)))
+
+-- past the third test the limits hold
+limits : (c : tie.Else3) → Limits (c .before .before .before .before .args .f) (length (serials (c .before .before .before .before)))
+limits c = omega (arith, size (c .before .before .before .before))
+
+returns-4 : tie.Need-returns-4
+returns-4 c =
+    let d = c .before .before .before .before .before in
+    sym (roster-own (d .args .f) (d .args .own) (serials d) (limits (c .before)) (c .if4 .taken))
+
+count-word-requires : tie.Need-count-word-requires
+count-word-requires c κs = search needs
+
+returns-5 : tie.Need-returns-5
+returns-5 c =
+    let d = c .before .before .before .before .before .before .before in
+    sym (roster-zero (d .args .f) (d .args .own) (serials d) (limits (c .before .before .before)) (omega arith))
+
+count-twins-requires : tie.Need-count-twins-requires
+count-twins-requires c κs = search needs
+
+returns-6 : tie.Need-returns-6
+returns-6 c =
+    let d = c .before .before .before .before .before .before .before .before .before in
+    sym (roster-twice (d .args .f) (d .args .own) (serials d) (limits (c .before .before .before .before .before)) (omega arith) (omega arith) (omega arith))
+
+count-word-requires-2 : tie.Need-count-word-requires-2
+count-word-requires-2 c κs = search needs
+
+returns-7 : tie.Need-returns-7
+returns-7 c =
+    let d = c .before .before .before .before .before .before .before .before .before .before .before in
+    sym (roster-stranger (d .args .f) (d .args .own) (serials d) (limits (c .before .before .before .before .before .before .before)) (omega arith) (omega arith) (omega arith) (omega arith))
+
+returns-8 : tie.Need-returns-8
+returns-8 c =
+    let d = c .before .before .before .before .before .before .before .before .before .before .before in
+    sym (roster-sound (d .args .f) (d .args .own) (serials d) (limits (c .before .before .before .before .before .before .before)) (omega arith) (omega arith) (omega arith) (omega arith))
+
+pub judge-spec : {M : Type 1} → statement M
+judge-spec =
+    tie.close
+    (tie.spec
+    returns
+    returns-2
+    mul-if3
+    add-if3
+    returns-3
+    returns-4
+    count-word-requires
+    returns-5
+    count-twins-requires
+    returns-6
+    count-word-requires-2
+    returns-7
+    returns-8)

@@ -1,0 +1,5 @@
+pub mod Field
+pub mod Form
+pub mod Frame
+pub mod Number
+pub mod Roster

@@ -1,0 +1,75 @@
+// The roster rules, numbers 2 to 5, over a column of serials in lent bytes: 4 apart in a form, a row apart in an image. These are
+// joints between layers: the caller has checked that the column lies inside the buffer.
+use crate::answer::Refusal;
+use crate::answer::Verdict;
+use crate::field::word;
+ghost use mathlib.Core.Path.{_≡_};
+ghost use Prim.Native.Nat.{_+_, _*_, _≤_};
+ghost use lib.ListN.{length};
+ghost use Rattle.forms.specs.Field.{words};
+ghost use Rattle.forms.specs.Number.{verdictOf};
+ghost use Rattle.forms.specs.Roster.{count, twins, rosterNumber};
+
+// How often x stands among the n words at i, i + stride, ..
+pub fn count_word(b: &[u8], i: usize, stride: usize, n: usize, x: u32) -> usize
+    requires { ⌜ (4 ≤ stride) × (i + n * stride ≤ length (now b)) ⌝ }
+    ensures { λ r. ⌜ (r ≡ count x (words n stride (now (b .entry)) i)) × (r ≤ n) ⌝ }
+{
+    let mut found: usize = 0;
+    let mut at = i;
+    let mut left = n;
+    while 0 < left {
+        if word(b, at) == x {
+            found += 1;
+        }
+        at += stride;
+        left -= 1;
+    }
+    found
+}
+
+// How many pairs of the n words at i, i + stride, .. are the same serial.
+pub fn count_twins(b: &[u8], i: usize, stride: usize, n: usize) -> usize
+    requires { ⌜ (4 ≤ stride) × (n ≤ 32) × (i + n * stride ≤ length (now b)) ⌝ }
+    ensures { λ r. ⌜ r ≡ twins (words n stride (now (b .entry)) i) ⌝ }
+{
+    let mut found: usize = 0;
+    let mut at = i;
+    let mut left = n;
+    while 0 < left {
+        let here = word(b, at);
+        at += stride;
+        left -= 1;
+        found += count_word(b, at, stride, left, here);
+    }
+    found
+}
+
+// The first of 2 to 5 that applies to the n serials at i, i + stride, ..
+pub fn judge(f: u32, own: u32, b: &[u8], i: usize, stride: usize, n: usize) -> Verdict
+    requires { ⌜ (4 ≤ stride) × (i + n * stride ≤ length (now b)) ⌝ }
+    ensures { λ r. ⌜ verdictOf r ≡ rosterNumber f own (words n stride (now (b .entry)) i) ⌝ }
+{
+    if n < 1 {
+        return Verdict::Broken(Refusal::Limits);
+    }
+    if 32 < n {
+        return Verdict::Broken(Refusal::Limits);
+    }
+    if n < 3 * (f as usize) + 1 {
+        return Verdict::Broken(Refusal::Limits);
+    }
+    if own == 0 {
+        return Verdict::Broken(Refusal::Zero);
+    }
+    if 0 < count_word(b, i, stride, n, 0) {
+        return Verdict::Broken(Refusal::Zero);
+    }
+    if 0 < count_twins(b, i, stride, n) {
+        return Verdict::Broken(Refusal::Twice);
+    }
+    if count_word(b, i, stride, n, own) == 0 {
+        return Verdict::Broken(Refusal::Stranger);
+    }
+    Verdict::Sound
+}

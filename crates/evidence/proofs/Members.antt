@@ -3,7 +3,7 @@
 -- Assumes nothing.
 use mathlib.Core.Path.{_≡_, refl, sym, ap, ap₂, _∙_, subst}
 use mathlib.Core.Logic.{_⊎_, inl, inr, ⊎-elim}
-use mathlib.Core.Bool.{Bool, true, false, cond, _&&_}
+use mathlib.Core.Bool.{Bool, true, false, cond, _&&_, and-true, and-false}
 use Prim.Native.Nat.{ℕ, zero, suc, _+_, _-_, _*_, _/_, _%_, _^_, _≤_, _<_, min, max}
 use native.Mathlib.Nat.{mod-lt, max-eq-left, max-eq-right}
 use native.Mathlib.Decide.{decLe, decLt, ℕ-discrete}
@@ -248,3 +248,24 @@ proper-facts w s e = go (ltb (s .mask) (2 ^ min w (s .top + 1))) refl (eqb (s .m
         shaped true q f = inl (eqb-true (s .mask) 0 q, eqb-true (s .top) 0 f)
         shaped false q f = inr (eqb-true (s .mask % 2) 1 f)
     go false p b q f = absurd (subst (λ (x : Bool). elim x as (λ (y : Bool). Type 0) [ true ↦ ⊥ | false ↦ Unit {0} ]) f tt)
+
+-- ---- the test of the definitions, case by case
+
+pub proper-empty : (w : ℕ) (s : Held) → s .mask ≡ 0 → proper w s ≡ eqb (s .top) 0
+unfolding proper
+proper-empty w s e =
+    ap₂ (λ (a b : Bool). a && cond b (eqb (s .top) 0) (eqb (s .mask % 2) 1))
+    (lt-ltb (s .mask) (2 ^ min w (s .top + 1)) (subst (λ (m : ℕ). m < 2 ^ min w (s .top + 1)) (sym e) (pow-pos (min w (s .top + 1))))) (eq-eqb (s .mask) 0 e)
+
+-- with bit 0 not set, a mask that is not 0 is refused
+pub proper-even : (w : ℕ) (s : Held) → (s .mask ≡ 0 → ⊥) → (s .mask % 2 ≡ 1 → ⊥) → proper w s ≡ false
+unfolding proper
+proper-even w s n m =
+    ap₂ (λ (a b : Bool). ltb (s .mask) (2 ^ min w (s .top + 1)) && cond a (eqb (s .top) 0) b) (ne-eqb (s .mask) 0 n) (ne-eqb (s .mask % 2) 1 m)
+    ∙ and-false (ltb (s .mask) (2 ^ min w (s .top + 1)))
+
+pub proper-odd : (w : ℕ) (s : Held) → (s .mask ≡ 0 → ⊥) → s .mask % 2 ≡ 1 → proper w s ≡ ltb (s .mask) (2 ^ min w (s .top + 1))
+unfolding proper
+proper-odd w s n m =
+    ap₂ (λ (a b : Bool). ltb (s .mask) (2 ^ min w (s .top + 1)) && cond a (eqb (s .top) 0) b) (ne-eqb (s .mask) 0 n) (eq-eqb (s .mask % 2) 1 m)
+    ∙ and-true (ltb (s .mask) (2 ^ min w (s .top + 1)))

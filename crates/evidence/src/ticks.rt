@@ -1,7 +1,7 @@
 // A set of ticks by value: top and mask, bit i of the mask for tick top - i. The mask is a word of 64 bits, so each function asks
 // that the window is at least 1 and at most 64: a joint between layers, since only the node knows the window.
 ghost use mathlib.Core.Path.{_≡_};
-ghost use Prim.Native.Nat.{_≤_, _<_, _%_, _^_};
+ghost use Prim.Native.Nat.{_+_, _≤_, _<_, _%_, _^_, min};
 ghost use Rattle.evidence.specs.Ticks.{empty, holds, insert, add, proper};
 ghost use Rattle.evidence.specs.Sets.{heldBy};
 
@@ -16,6 +16,13 @@ fn cut(w: u32, m: u64) -> u64
     ensures { λ r. ⌜ r ≡ m % 2 ^ w ⌝ }
 {
     if w < 64 { m % (1u64 << w) } else { m }
+}
+
+// How many bits a mask may have: as many as the window is wide, and none for a tick below 0.
+fn reach(w: u32, top: u32) -> u32
+    ensures { λ r. ⌜ r ≡ min w (top + 1) ⌝ }
+{
+    if top < w { top + 1 } else { w }
 }
 
 impl Ticks {
@@ -90,5 +97,26 @@ impl Ticks {
             return second;
         }
         second.with(w, j - 2)
+    }
+
+    // Whether an image may hold this set: no bit outside the window or above the top, bit 0 set unless the set is empty, and the
+    // empty set with top 0.
+    pub fn is_proper(self, w: u32) -> bool
+        requires { ⌜ w ≤ 64 ⌝ }
+        ensures { λ r. ⌜ r ≡ proper w (heldBy self) ⌝ }
+    {
+        let top = self.top;
+        let mask = self.mask;
+        if mask == 0 {
+            return top == 0;
+        }
+        if mask % 2 != 1 {
+            return false;
+        }
+        let bits = reach(w, top);
+        if bits < 64 {
+            return mask < (1u64 << bits);
+        }
+        true
     }
 }

@@ -2,6 +2,9 @@
 mod Examples
 pub mod Fields
 pub mod Frames
+pub mod Meaning
+pub mod Order
 pub mod Rosters
+pub mod RoundTrip
 pub mod Told
 pub mod Words

@@ -1,12 +1,12 @@
 -- The roster form (01, "Layouts"): byte 0 n, byte 1 f, bytes 2..3 the offset of the serials, always 8, bytes 4..7 the own
 -- serial, then n serials of 4 bytes. What its reader gives and what its writer leaves, for every input.
 use Prim.Native.Nat.{ℕ, _+_, _*_}
-use mathlib.Core.List.{List, []}
+use mathlib.Core.List.{List}
 use mathlib.Core.Bool.{Bool, cond, not, _||_}
 use lib.ListN.{length, getD}
 use lib.Dec.{ltb, eqb}
 use Rattle.forms.specs.Field.{field, putField, words, putWords}
-use Rattle.forms.specs.Number.{numberOf, orElse}
+use Rattle.forms.specs.Number.{numberOf}
 use Rattle.forms.specs.Roster.{rosterNumber}
 use Rattle.forms.specs.declared.answer.Written.{Written}
 use Rattle.forms.specs.declared.answer.Written.the-variants.{Wrote, NotWritten}
@@ -35,7 +35,7 @@ formNumber b = cond (misplaced b) 1 (rosterNumber (faultsOf b) (ownOf b) (serial
 
 -- ---- the reader
 
--- number, n, f, own serial and the serials; with a refusal's number every field is 0 and the list empty
+-- number, n, f and own serial; with a refusal's number every field is 0. The serials are read by place, `serialOn` below
 pub record FormTold : Type 0 where
   pub number : ℕ
   pub lines : ℕ

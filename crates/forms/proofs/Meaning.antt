@@ -1,0 +1,320 @@
+-- Each number is given exactly when the paper says, and in no other case (01, "Numbers given back"). The rows of the paper's
+-- table stand here once more as plain propositions, with no test and no count in them, and each theorem says for every k that
+-- the number given is k exactly where the first row that applies has number k, and 0 where none applies.
+-- Assumes nothing.
+use mathlib.Core.Path.{_≡_, refl, sym, _∙_, subst}
+use mathlib.Core.Logic.{_↔_, _≢_, _⊎_, inl, inr, Iff·trans, ⊎-map, ⊎-elim}
+use mathlib.Core.Bool.{Bool, true, false, cond, not, _||_, _&&_, false≢true}
+use mathlib.Core.List.{List, [], _∷_, _++_, List·Memᴰ, List·Memᴰ·head, List·Memᴰ·tail, List·Memᴰ·cases-cons, Memᴰ·cast}
+use Prim.Native.Nat.{ℕ, zero, suc, _+_, _*_, _<_}
+use native.Mathlib.Decide.{decLt}
+use native.Mathlib.Omega.{arith}
+use lib.ListN.{length, getD}
+use lib.Dec.{ltb, eqb, eqb·suc-zero}
+use borrow.Author.Tests.{ltb-true, lt-ltb, eqb-true, eqb-false, eq-eqb}
+use Rattle.forms.specs.Number.{orElse}
+use Rattle.forms.specs.Field.{field}
+use Rattle.forms.specs.Roster.{count, twins, rosterNumber}
+use Rattle.forms.specs.Form.{linesOf, faultsOf, ownOf, serialsOf, FormTold, formNumber, formTold, WriteTold, writeTold, formWritten}
+use Rattle.forms.specs.Frame.{badKind, FrameTold, frameNumber, frameTold, frameWritten}
+use Rattle.forms.proofs.Words.{length-words}
+
+infixl 2 _or_
+infix 70 _when_
+-- grouped to the left, as the tests are
+abbrev pub _or_ : Type 0 → Type 0 → Type 0
+A or B = A ⊎ B
+
+-- ---- the paper's table
+
+-- 1: shorter than 8, offset not 8, or length not 8 + 4n
+abbrev pub Misplaced : List ℕ → Type 0
+Misplaced b = (length b < 8) or (field 2 b 2 ≢ 8) or (length b ≢ 8 + 4 * linesOf b)
+
+-- 2: n not 1..32, or n < 3f + 1
+abbrev pub Beyond : ℕ → ℕ → Type 0
+Beyond n f = (n < 1) or (32 < n) or (n < 3 * f + 1)
+
+-- 3: a serial or the own serial is 0
+abbrev pub HasZero : ℕ → List ℕ → Type 0
+HasZero own serials = (own ≡ 0) or List·Memᴰ 0 serials
+
+-- 4: a serial stands twice, on two different lines
+pub record Twice (serials : List ℕ) : Type 0 where
+  pub first : ℕ
+  pub second : ℕ
+  pub apart : first < second
+  pub listed : second < length serials
+  pub same : getD serials first 0 ≡ getD serials second 0
+
+-- 5: own serial not in the list
+abbrev pub Stranger : ℕ → List ℕ → Type 0
+Stranger own serials = List·Memᴰ own serials → ⊥
+
+-- 10, of the writer: kind not 1 or 2
+abbrev pub BadKind : ℕ → Type 0
+BadKind kind = (kind ≢ 1) × (kind ≢ 2)
+
+-- 10: not 8 long, kind not 1 or 2, or bytes 1..3 not zero
+abbrev pub Misshapen : List ℕ → Type 0
+Misshapen b = (length b ≢ 8) or BadKind (getD b 0 0) or (getD b 1 0 ≢ 0) or (getD b 2 0 ≢ 0) or (getD b 3 0 ≢ 0)
+
+-- ---- the first check that applies
+
+pub record Check : Type 1 where
+  pub number : ℕ
+  pub applies : Type 0
+
+abbrev pub _when_ : ℕ → Type 0 → Check
+n when C = record { number = n; applies = C }
+
+-- what it means that the checks, made one after the other, give k. If k is the number of the first: that it applies. If not:
+-- that it does not apply, and the others give k. Where no check is left, k is 0. At a numeral this computes: of a roster,
+-- 4 is given where number 2's and number 3's conditions fail and number 4's holds
+abbrev pub Given : List Check → ℕ → Type 0
+Given [] k = k ≡ 0
+Given (check ∷ others) k = cond (eqb k (check .number)) (check .applies) ((check .applies → ⊥) × Given others k)
+
+-- the number is what the checks give: it is k in the case that gives k, and in no other case
+pub record Says (number : ℕ) (checks : List Check) : Type 0 where
+  pub exactly : (k : ℕ) → (number ≡ k) ↔ Given checks k
+
+-- ---- what the counts mean
+
+counted : {x : ℕ} {l : List ℕ} → List·Memᴰ x l → 0 < count x l
+unfolding count
+counted {x} (List·Memᴰ·head {x = y} e) = rw (eq-eqb y x (sym e)) (omega arith)
+counted (List·Memᴰ·tail m) = omega (arith, counted m)
+
+found : (x : ℕ) (l : List ℕ) → 0 < count x l → List·Memᴰ x l
+unfolding count
+found x [] p = absurd (omega arith)
+found x (y ∷ l) p = go (eqb y x) refl (found x l) p
+  where
+    go : (t : Bool) → eqb y x ≡ t → (0 < count x l → List·Memᴰ x l) → 0 < cond t 1 0 + count x l → List·Memᴰ x (y ∷ l)
+    go true e below q = List·Memᴰ·head (sym (eqb-true y x e))
+    go false e below q = List·Memᴰ·tail (below (omega arith))
+
+-- a serial is counted exactly where it stands in the list
+pub member-says : (x : ℕ) (l : List ℕ) → (0 < count x l) ↔ List·Memᴰ x l
+member-says x l = (found x l, counted)
+
+place : {x : ℕ} {l : List ℕ} → List·Memᴰ x l → (i : ℕ) × (i < length l) × (x ≡ getD l i 0)
+place (List·Memᴰ·head e) = (0, omega arith, e)
+place (List·Memᴰ·tail m) = let p = place m in (suc (p .0), omega (arith, p .1), p .2)
+
+at-place : (l : List ℕ) (i : ℕ) → i < length l → List·Memᴰ (getD l i 0) l
+at-place [] i p = absurd (omega arith)
+at-place (x ∷ l) zero p = List·Memᴰ·head refl
+at-place (x ∷ l) (suc i) p = List·Memᴰ·tail (at-place l i (omega arith))
+
+twins-lines : (l : List ℕ) → 0 < twins l → Twice l
+unfolding twins
+twins-lines [] p = absurd (omega arith)
+twins-lines (x ∷ l) p = go (decLt 0 (count x l)) (twins-lines l)
+  where
+    go : Dec (0 < count x l) → (0 < twins l → Twice l) → Twice (x ∷ l)
+    go (yes q) below =
+        let m = place (found x l q) in
+        record { first = 0; second = suc (m .0); apart = omega arith; listed = omega (arith, m .1); same = m .2 }
+    go (no q) below =
+        let t = below (omega arith) in
+        record { first = suc (t .first); second = suc (t .second); apart = omega arith; listed = omega arith; same = t .same }
+
+lines-twins : (l : List ℕ) (i j : ℕ) → i < j → j < length l → getD l i 0 ≡ getD l j 0 → 0 < twins l
+unfolding twins
+lines-twins [] i j p q e = absurd (omega arith)
+lines-twins (x ∷ l) zero zero p q e = absurd (omega arith)
+lines-twins (x ∷ l) zero (suc j) p q e = omega (arith, counted (Memᴰ·cast e (at-place l j (omega arith))))
+lines-twins (x ∷ l) (suc i) zero p q e = absurd (omega arith)
+lines-twins (x ∷ l) (suc i) (suc j) p q e = omega (arith, lines-twins l i j (omega arith) (omega arith) e)
+
+-- pairs of equal serials are counted exactly where two different lines hold the same serial
+pub twice-says : (l : List ℕ) → (0 < twins l) ↔ Twice l
+twice-says l = (twins-lines l, λ t. lines-twins l (t .first) (t .second) (t .apart) (t .listed) (t .same))
+
+-- ---- tests
+
+-- the test passes exactly where the proposition holds
+abbrev Decides : Bool → Type 0 → Type 0
+Decides t C = (t ≡ true) ↔ C
+
+less : (a b : ℕ) → Decides (ltb a b) (a < b)
+less a b = (ltb-true a b, lt-ltb a b)
+
+equal : (a b : ℕ) → Decides (eqb a b) (a ≡ b)
+equal a b = (eqb-true a b, eq-eqb a b)
+
+opposite : (t : Bool) {C : Type 0} → Decides t C → Decides (not t) (C → ⊥)
+opposite true d = (λ e. absurd (false≢true e), λ n. absurd (n (d .0 refl)))
+opposite false d = (λ e c. false≢true (d .1 c), λ n. refl)
+
+either : (s t : Bool) {A B : Type 0} → Decides s A → Decides t B → Decides (s || t) (A or B)
+either true t c d = (λ e. inl (c .0 refl), λ x. refl)
+either false true c d = (λ e. inr (d .0 refl), λ x. refl)
+either false false {A} {B} c d = (λ e. absurd (false≢true e), none)
+  where
+    none : A or B → false ≡ true
+    none (inl a) = c .1 a
+    none (inr b) = d .1 b
+
+both : (s t : Bool) {A B : Type 0} → Decides s A → Decides t B → Decides (s && t) (A × B)
+both true t c d = (λ e. (c .0 refl, d .0 e), λ x. d .1 (x .1))
+both false t c d = (λ e. absurd (false≢true e), λ x. c .1 (x .0))
+
+-- a check in front of others, if none of those gives its number
+in-front : (n : ℕ) {C : Type 0} {t : Bool} {rest : ℕ} {checks : List Check} →
+    Decides t C → (Given checks n → ⊥) → Says rest checks → Says (cond t n rest) (n when C ∷ checks)
+in-front n {C} {t} {rest} {checks} d fresh says = record { exactly = λ k. go k (eqb k n) refl t d }
+  where
+    go : (k : ℕ) (s : Bool) → eqb k n ≡ s → (t : Bool) → Decides t C → (cond t n rest ≡ k) ↔ cond s C ((C → ⊥) × Given checks k)
+    go k true e true d = (λ _. d .0 refl, λ _. sym (eqb-true k n e))
+    go k true e false d =
+        (λ r. absurd (fresh (subst (λ (m : ℕ). Given checks m) (eqb-true k n e) (says .exactly k .0 r))), λ c. absurd (false≢true (d .1 c)))
+    go k false e true d = (λ r. absurd (eqb-false k n e (sym r)), λ g. absurd (g .0 (d .0 refl)))
+    go k false e false d = (λ r. (λ c. false≢true (d .1 c), says .exactly k .0 r), λ g. says .exactly k .1 (g .1))
+
+none : Says 0 []
+none = record { exactly = λ k. (sym, sym) }
+
+-- ---- the roster
+
+-- numbers 2 to 5
+abbrev pub rosterChecks : ℕ → ℕ → ℕ → List ℕ → List Check
+rosterChecks n f own serials =
+    2 when Beyond n f
+    ∷ 3 when HasZero own serials
+    ∷ 4 when Twice serials
+    ∷ 5 when Stranger own serials
+    ∷ []
+
+zeros : (own : ℕ) (serials : List ℕ) → (0 < count 0 (own ∷ serials)) ↔ HasZero own serials
+zeros own serials =
+    (λ p. ⊎-map sym (λ m. m) (List·Memᴰ·cases-cons (found 0 (own ∷ serials) p)), ⊎-elim (λ e. counted (List·Memᴰ·head (sym e))) (λ m. counted (List·Memᴰ·tail m)))
+
+absent : (own : ℕ) (serials : List ℕ) → (count own serials ≡ 0) ↔ Stranger own serials
+absent own serials =
+    (λ e m. omega (arith, counted m), λ n. elim (decLt 0 (count own serials)) [ yes p ↦ absurd (n (found own serials p)) | no q ↦ omega arith ])
+
+-- other checks behind come after the last of these
+past : (t : Bool) (n rest next : ℕ) → orElse (cond t (suc n) rest) next ≡ cond t (suc n) (orElse rest next)
+past true n rest next = refl
+past false n rest next = refl
+
+-- a roster's number, with other checks behind
+roster-then : (f own : ℕ) (serials : List ℕ) {next : ℕ} {checks : List Check} →
+    Says next checks → (Given checks 2 → ⊥) × (Given checks 3 → ⊥) × (Given checks 4 → ⊥) × (Given checks 5 → ⊥) →
+    Says (orElse (rosterNumber f own serials) next) (rosterChecks (length serials) f own serials ++ checks)
+unfolding rosterNumber
+roster-then f own serials {next} {checks} says fresh =
+    rw (past, past, past, past)
+    (in-front 2 (either _ _ (either _ _ (less (length serials) 1) (less 32 (length serials))) (less (length serials) (3 * f + 1))) (λ g. fresh .0 (g .1 .1 .1))
+    (in-front 3 (Iff·trans (less 0 (count 0 (own ∷ serials))) (zeros own serials)) (λ g. fresh .1 (g .1 .1))
+    (in-front 4 (Iff·trans (less 0 (twins serials)) (twice-says serials)) (λ g. fresh .2 (g .1))
+    (in-front 5 (Iff·trans (equal (count own serials) 0) (absent own serials)) (fresh .3)
+    says))))
+
+else-zero : (n : ℕ) → orElse n 0 ≡ n
+else-zero zero = refl
+else-zero (suc n) = refl
+
+-- a roster's number is what the paper's rows 2 to 5 give
+pub roster-says : (f own : ℕ) (serials : List ℕ) → Says (rosterNumber f own serials) (rosterChecks (length serials) f own serials)
+roster-says f own serials = rw (else-zero (rosterNumber f own serials)) at (roster-then f own serials none (omega arith))
+
+-- ---- the readers
+
+-- a reader's number, where it answers by a record with number 0 or by a refusal
+told : {A : Type 0} (number : A → ℕ) (taken refused : A) (n : ℕ) →
+    number taken ≡ 0 → number refused ≡ n → number (cond (eqb n 0) taken refused) ≡ n
+told number taken refused n p q = go (eqb n 0) refl
+  where
+    go : (t : Bool) → eqb n 0 ≡ t → number (cond t taken refused) ≡ n
+    go true e = p ∙ sym (eqb-true n 0 e)
+    go false e = q
+
+-- numbers 1 to 5
+abbrev pub formChecks : List ℕ → List Check
+formChecks b = 1 when Misplaced b ∷ rosterChecks (linesOf b) (faultsOf b) (ownOf b) (serialsOf b)
+
+-- the form reader tells `formNumber`
+pub form-told : (b : List ℕ) → formTold b .number ≡ formNumber b
+unfolding formTold
+form-told b = told (λ (t : FormTold). t .number) _ _ (formNumber b) refl refl
+
+-- the form reader's number is what rows 1 to 5 give
+pub form-says : (b : List ℕ) → Says (formTold b .number) (formChecks b)
+unfolding formNumber
+form-says b =
+    rw (form-told b)
+    (in-front 1 (either _ _ (either _ _ (less (length b) 8) (opposite _ (equal (field 2 b 2) 8))) (opposite _ (equal (length b) (8 + 4 * linesOf b)))) (omega arith)
+    (rw (length-words (linesOf b) 4 b 8) at (roster-says (faultsOf b) (ownOf b) (serialsOf b))))
+
+-- numbers 10 and 11
+abbrev pub frameChecks : ℕ → List ℕ → List Check
+frameChecks last b = 10 when Misshapen b ∷ 11 when (last < field 4 b 4) ∷ []
+
+bad : (kind : ℕ) → Decides (badKind kind) (BadKind kind)
+bad kind = both _ _ (opposite _ (equal kind 1)) (opposite _ (equal kind 2))
+
+-- the frame reader tells `frameNumber`
+pub frame-told : (last : ℕ) (b : List ℕ) → frameTold last b .number ≡ frameNumber last b
+unfolding frameTold
+frame-told last b = told (λ (t : FrameTold). t .number) _ _ (frameNumber last b) refl refl
+
+-- the frame reader's number is what rows 10 and 11 give
+pub frame-says : (last : ℕ) (b : List ℕ) → Says (frameTold last b .number) (frameChecks last b)
+unfolding frameNumber
+frame-says last b =
+    rw (frame-told last b)
+    (in-front 10 (either _ _ (either _ _ (either _ _ (either _ _ (opposite _ (equal (length b) 8)) (bad (getD b 0 0))) (is0 1)) (is0 2)) (is0 3)) (omega arith)
+    (in-front 11 (less last (field 4 b 4)) (omega arith) none))
+  where
+    is0 : (i : ℕ) → Decides (not (eqb (getD b i 0) 0)) (getD b i 0 ≢ 0)
+    is0 i = opposite _ (equal (getD b i 0) 0)
+
+-- ---- the writers
+
+-- 7, last, when the output is shorter than what would be written
+abbrev pub roomCheck : ℕ → List ℕ → Check
+roomCheck size out = 7 when (length out < size)
+
+room : (size : ℕ) (out : List ℕ) → Says (cond (ltb (length out) size) 7 0) (roomCheck size out ∷ [])
+room size out = in-front 7 (less (length out) size) (omega arith) none
+
+-- a writer tells the number of its checks, and else 7 or 0
+pub write-number : (number size : ℕ) (before after : List ℕ) →
+    writeTold number size before after .number ≡ orElse number (cond (ltb (length before) size) 7 0)
+write-number zero size before after = go (ltb (length before) size)
+  where
+    go : (t : Bool) → (cond {A = WriteTold} t (record { number = 7; written = 0; out = before }) (record { number = 0; written = size; out = after })) .number ≡ cond t 7 0
+    go true = refl
+    go false = refl
+write-number (suc n) size before after = rw (eqb·suc-zero n)
+
+-- the form writer's number is what rows 2 to 5 give, and 7 last
+pub form-writer-says : (f own : ℕ) (serials out : List ℕ) →
+    Says (formWritten f own serials out .number) (rosterChecks (length serials) f own serials ++ roomCheck (8 + 4 * length serials) out ∷ [])
+unfolding formWritten
+form-writer-says f own serials out = rw write-number (roster-then f own serials (room (8 + 4 * length serials) out) (omega arith))
+
+-- the frame writer's number is 10 for the kind, then 11, and 7 last
+pub frame-writer-says : (last kind tick : ℕ) (out : List ℕ) →
+    Says (frameWritten last kind tick out .number) (10 when BadKind kind ∷ 11 when (last < tick) ∷ roomCheck 8 out ∷ [])
+unfolding frameWritten
+frame-writer-says last kind tick out =
+    rw (write-number, past, past) (in-front 10 (bad kind) (omega arith) (in-front 11 (less last tick) (omega arith) (room 8 out)))
+
+-- ---- single rows
+
+-- each row of the table is one instance of these; so 4 of a roster, 11 of a frame, and 7 of the frame writer
+row-4 : (f own : ℕ) (serials : List ℕ) →
+    (rosterNumber f own serials ≡ 4) ↔ ((Beyond (length serials) f → ⊥) × ((HasZero own serials → ⊥) × Twice serials))
+row-4 f own serials = roster-says f own serials .exactly 4
+
+row-11 : (last : ℕ) (b : List ℕ) → (frameTold last b .number ≡ 11) ↔ ((Misshapen b → ⊥) × (last < field 4 b 4))
+row-11 last b = frame-says last b .exactly 11
+
+row-7 : (last kind tick : ℕ) (out : List ℕ) →
+    (frameWritten last kind tick out .number ≡ 7) ↔ ((BadKind kind → ⊥) × ((last < tick → ⊥) × (length out < 8)))
+row-7 last kind tick out = frame-writer-says last kind tick out .exactly 7

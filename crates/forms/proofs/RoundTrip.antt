@@ -1,0 +1,393 @@
+-- What a writer wrote its reader gives back, and what a reader took its writer writes again byte for byte; bytes behind what is
+-- written stay, and a refusal changes no byte.
+-- Assumes nothing.
+use mathlib.Core.Path.{_≡_, refl, sym, ap, ap₂, _∙_}
+use mathlib.Core.Logic.{_↔_, _≢_, inl, inr}
+use mathlib.Core.Bool.{Bool, true, false, cond, or-false}
+use mathlib.Core.List.{List, [], _∷_, _++_}
+use Prim.Native.Nat.{ℕ, zero, suc, _+_, _*_, _/_, _%_, _^_, _≤_, _<_}
+use native.Mathlib.Decide.{decLt, ℕ-discrete}
+use native.Mathlib.Nat.{add-zero, add-suc}
+use native.Mathlib.Omega.{arith}
+use lib.ListN.{length, getD, take, drop, take-append-drop}
+use lib.Seq.{getD-take, length-take-le, take-suc-set, drop-set-lt, take-all}
+use lib.Dec.{ltb, eqb}
+use borrow.Author.Tests.{eqb-true, eqb-false, ltb-false, eq-eqb, le-ltb}
+use Rattle.forms.specs.Field.{field, putField, words, putWords, Bytes}
+use Rattle.forms.specs.Roster.{rosterNumber}
+use Rattle.forms.specs.Form.{linesOf, faultsOf, ownOf, serialsOf, formNumber, formTold, serialOn, WriteTold, writeTold, putForm, formWritten}
+use Rattle.forms.specs.Frame.{badKind, frameNumber, frameTold, putFrame, frameWritten, frameWriteNumber}
+use Rattle.forms.proofs.Fields.{field-same, field-put, field-put-other, put-field, length-put}
+use Rattle.forms.proofs.Words.{Words, length-words, words-same, length-putWords, field-putWords-before, words-putWords, putWords-words}
+use Rattle.forms.proofs.Meaning.{Given, formChecks, frameChecks, form-told, frame-told, roster-says, form-says, frame-says, form-writer-says, frame-writer-says}
+
+-- ---- laws of stores
+
+field-one : (b : List ℕ) (i : ℕ) → field 1 b i ≡ getD b i 0
+unfolding field
+field-one b i = omega (arith, ap (λ (k : ℕ). getD b k 0) (add-zero i))
+
+-- a field in the front of a list
+field-take : (w n : ℕ) (b : List ℕ) (i : ℕ) → i + w ≤ n → field w (take n b) i ≡ field w b i
+field-take w n b i p = field-same w (take n b) b i i (λ k q. getD-take n b (i + k) 0 (omega arith))
+
+-- a store right behind bytes that two lists share gives them more such bytes
+take-put : (w : ℕ) (b c : List ℕ) (i v : ℕ) →
+    i + w ≤ length b → i + w ≤ length c → take i b ≡ take i c → take (i + w) (putField w b i v) ≡ take (i + w) (putField w c i v)
+unfolding putField
+take-put zero b c i v p q e = rw add-zero e
+take-put (suc w) b c i v p q e =
+    rw add-suc
+    (take-suc-set (putField w b i (v / 256)) (i + w) (v % 256) (omega (arith, length-put w b i (v / 256)))
+    ∙ ap (λ (l : List ℕ). l ++ (v % 256 ∷ [])) (take-put w b c i (v / 256) (omega arith) (omega arith) e)
+    ∙ sym (take-suc-set (putField w c i (v / 256)) (i + w) (v % 256) (omega (arith, length-put w c i (v / 256)))))
+
+take-words : (vs b c : List ℕ) (i n : ℕ) →
+    i + 4 * length vs ≡ n → n ≤ length b → n ≤ length c → take i b ≡ take i c → take n (putWords 4 b i vs) ≡ take n (putWords 4 c i vs)
+unfolding putWords
+take-words [] b c i n s p q e = let same : i ≡ n = omega arith in rw same at e
+take-words (v ∷ vs) b c i n s p q e =
+    take-words vs (putField 4 b i v) (putField 4 c i v) (i + 4) n (omega arith) (omega (arith, length-put 4 b i v)) (omega (arith, length-put 4 c i v))
+    (take-put 4 b c i v (omega arith) (omega arith) e)
+
+-- bytes behind a store stay
+drop-put : (w : ℕ) (b : List ℕ) (i v n : ℕ) → i + w ≤ n → drop n (putField w b i v) ≡ drop n b
+unfolding putField
+drop-put zero b i v n p = refl
+drop-put (suc w) b i v n p = drop-set-lt n (putField w b i (v / 256)) (i + w) (v % 256) (omega arith) ∙ drop-put w b i (v / 256) n (omega arith)
+
+drop-words : (vs b : List ℕ) (i n : ℕ) → i + 4 * length vs ≤ n → drop n (putWords 4 b i vs) ≡ drop n b
+unfolding putWords
+drop-words [] b i n p = refl
+drop-words (v ∷ vs) b i n p = drop-words vs (putField 4 b i v) (i + 4) n (omega arith) ∙ drop-put 4 b i v n (omega arith)
+
+-- ---- what a writer answers
+
+settled : (a b : ℕ) → (a ≢ b → ⊥) → a ≡ b
+settled a b h = elim (ℕ-discrete a b) [ yes e ↦ e | no n ↦ absurd (h n) ]
+
+module _ (number size : ℕ) (before after : List ℕ) where
+  -- with the two tests of `writeTold` as variables
+  abbrev answer : Bool → Bool → WriteTold
+  answer s t =
+      cond s (cond t (record { number = 7; written = 0; out = before }) (record { number = 0; written = size; out = after }))
+      (record { number = number; written = 0; out = before })
+
+  -- number 0 is given only where all is written
+  wrote : writeTold number size before after .number ≡ 0 →
+      (number ≡ 0) × (size ≤ length before) × (writeTold number size before after ≡ record { number = 0; written = size; out = after })
+  wrote = go (eqb number 0) refl (ltb (length before) size) refl
+    where
+      go : (s : Bool) → eqb number 0 ≡ s → (t : Bool) → ltb (length before) size ≡ t → answer s t .number ≡ 0 →
+          (number ≡ 0) × (size ≤ length before) × (answer s t ≡ record { number = 0; written = size; out = after })
+      go true e true d p = absurd (omega arith)
+      go true e false d p = (eqb-true number 0 e, ltb-false (length before) size d, refl)
+      go false e t d p = absurd (eqb-false number 0 e p)
+
+  -- and where that begins with the bytes b and ends as before, the output is b over the old bytes
+  wrote-bytes : (b : List ℕ) → writeTold number size before after .number ≡ 0 → length b ≡ size →
+      take size after ≡ take size b → drop size after ≡ drop size before →
+      writeTold number size before after ≡ record { number = 0; written = length b; out = b ++ drop (length b) before }
+  wrote-bytes b p e front behind =
+      wrote p .2
+      ∙ ap₂ {C = WriteTold} (λ (n : ℕ) (l : List ℕ). record { number = 0; written = n; out = l }) (sym e)
+      (sym (take-append-drop size after) ∙ ap₂ (λ (x y : List ℕ). x ++ y) (front ∙ take-all size b (omega arith)) (rw e behind))
+
+  -- a refusal changes no byte
+  refused-bytes : (writeTold number size before after .number ≡ 0 → ⊥) →
+      (writeTold number size before after .written ≡ 0) × (writeTold number size before after .out ≡ before)
+  refused-bytes = go (eqb number 0) (ltb (length before) size)
+    where
+      go : (s t : Bool) → (answer s t .number ≡ 0 → ⊥) → (answer s t .written ≡ 0) × (answer s t .out ≡ before)
+      go true true n = (refl, refl)
+      go true false n = absurd (n refl)
+      go false t n = (refl, refl)
+
+  -- bytes behind what is written stay, and so does the length, whatever the number
+  kept-bytes : drop size after ≡ drop size before → length after ≡ length before →
+      (drop size (writeTold number size before after .out) ≡ drop size before) × (length (writeTold number size before after .out) ≡ length before)
+  kept-bytes behind long = go (eqb number 0) (ltb (length before) size)
+    where
+      go : (s t : Bool) → (drop size (answer s t .out) ≡ drop size before) × (length (answer s t .out) ≡ length before)
+      go true true = (refl, refl)
+      go true false = (behind, long)
+      go false t = (refl, refl)
+
+-- ---- the form
+
+-- the length of a form with these serials
+abbrev pub formSize : List ℕ → ℕ
+formSize serials = 8 + 4 * length serials
+
+module _ (out : List ℕ) (f own : ℕ) (serials : List ℕ) where
+  length-form : length (putForm out f own serials) ≡ length out
+  unfolding putForm
+  length-form = simp (length-putWords, length-put)
+
+  drop-form : drop (formSize serials) (putForm out f own serials) ≡ drop (formSize serials) out
+  unfolding putForm
+  drop-form =
+      drop-words serials _ 8 (formSize serials) (omega arith)
+      ∙ drop-put 4 _ 4 own (formSize serials) (omega arith)
+      ∙ drop-put 2 _ 2 8 (formSize serials) (omega arith)
+      ∙ drop-put 1 _ 1 f (formSize serials) (omega arith)
+      ∙ drop-put 1 out 0 (length serials) (formSize serials) (omega arith)
+
+  -- the bytes written do not depend on what stood there
+  take-form : (b : List ℕ) → formSize serials ≤ length out → formSize serials ≤ length b →
+      take (formSize serials) (putForm out f own serials) ≡ take (formSize serials) (putForm b f own serials)
+  unfolding putForm
+  take-form b p q =
+      take-words serials _ _ 8 (formSize serials) refl (simp length-put p) (simp length-put q)
+      (take-put 4 _ _ 4 own (simp length-put (omega arith)) (simp length-put (omega arith))
+      (take-put 2 _ _ 2 8 (simp length-put (omega arith)) (simp length-put (omega arith))
+      (take-put 1 _ _ 1 f (simp length-put (omega arith)) (simp length-put (omega arith))
+      (take-put 1 out b 0 (length serials) (omega arith) (omega arith) refl))))
+
+-- a form that the writer gave number 0
+module _ (f own : ℕ) (serials out : List ℕ) (fits : own < 2 ^ 32) (whole : Words serials)
+    (ok : formWritten f own serials out .number ≡ 0) where
+  form : List ℕ
+  form = take (formSize serials) (putForm out f own serials)
+
+  done :
+      (rosterNumber f own serials ≡ 0) × (formSize serials ≤ length out)
+      × (formWritten f own serials out ≡ record { number = 0; written = formSize serials; out = putForm out f own serials })
+  unfolding formWritten
+  done = wrote (rosterNumber f own serials) (formSize serials) out (putForm out f own serials) ok
+
+  front : formWritten f own serials out .out ≡ putForm out f own serials
+  front = ap (λ (t : WriteTold). t .out) (done .2)
+
+  limits : (length serials ≤ 32) × (3 * f + 1 ≤ length serials)
+  limits =
+      let n = roster-says f own serials .exactly 0 .0 (done .0) .0 in
+      let few : 32 < length serials → ⊥ = λ p. n (inl (inr p)) in
+      let enough : length serials < 3 * f + 1 → ⊥ = λ p. n (inr p) in
+      omega arith
+
+  -- a field in front of the serials
+  header : (w i : ℕ) → i + w ≤ 8 →
+      field w form i ≡ field w (putField 4 (putField 2 (putField 1 (putField 1 out 0 (length serials)) 1 f) 2 8) 4 own) i
+  unfolding form putForm
+  header w i p = field-take w (formSize serials) _ i (omega arith) ∙ field-putWords-before w 4 _ 8 serials i p
+
+  lines-back : linesOf form ≡ length serials
+  lines-back =
+      sym (field-one form 0)
+      ∙ header 1 0 (omega arith)
+      ∙ field-put-other 1 4 _ 4 own 0 (omega arith)
+      ∙ field-put-other 1 2 _ 2 8 0 (omega arith)
+      ∙ field-put-other 1 1 _ 1 f 0 (omega arith)
+      ∙ field-put 1 out 0 (length serials) (omega (arith, done .1)) (omega (arith, limits))
+
+  faults-back : faultsOf form ≡ f
+  faults-back =
+      sym (field-one form 1)
+      ∙ header 1 1 (omega arith)
+      ∙ field-put-other 1 4 _ 4 own 1 (omega arith)
+      ∙ field-put-other 1 2 _ 2 8 1 (omega arith)
+      ∙ field-put 1 _ 1 f (simp length-put (omega (arith, done .1))) (omega (arith, limits))
+
+  offset-back : field 2 form 2 ≡ 8
+  offset-back =
+      header 2 2 (omega arith)
+      ∙ field-put-other 2 4 _ 4 own 2 (omega arith)
+      ∙ field-put 2 _ 2 8 (simp length-put (omega (arith, done .1))) (omega arith)
+
+  own-back : ownOf form ≡ own
+  own-back = header 4 4 (omega arith) ∙ field-put 4 _ 4 own (simp length-put (omega (arith, done .1))) fits
+
+  serials-back : serialsOf form ≡ serials
+  unfolding form putForm
+  serials-back =
+      ap (λ (n : ℕ). words n 4 form 8) lines-back
+      ∙ words-same (length serials) 4 form _ 8 8 (omega arith) (λ k p. getD-take (formSize serials) _ (8 + k) 0 (omega arith))
+      ∙ words-putWords 4 _ 8 serials (omega arith) (simp length-put (omega (arith, done .1))) whole
+
+  number-back : formNumber form ≡ 0
+  unfolding formNumber form
+  number-back =
+      cc (
+        le-ltb (length form) 8 (omega (arith, size)),
+        eq-eqb (field 2 form 2) 8 offset-back,
+        eq-eqb (length form) (8 + 4 * linesOf form) (omega (arith, size, lines-back)),
+        faults-back,
+        own-back,
+        serials-back,
+        done .0,
+      )
+    where
+      size : length form ≡ formSize serials
+      size = length-take-le (formSize serials) (putForm out f own serials) (omega (arith, done .1, length-form out f own serials))
+
+  -- its bytes are read back with n, f and the own serial
+  pub form-read-back :
+      formTold (take (formSize serials) (formWritten f own serials out .out)) ≡ record { number = 0; lines = length serials; faults = f; own = own }
+  unfolding formTold form
+  form-read-back = rw front (cc (number-back, lines-back, faults-back, own-back))
+
+  -- and with the serials
+  pub serials-read-back : serialsOf (take (formSize serials) (formWritten f own serials out .out)) ≡ serials
+  unfolding form
+  serials-read-back = rw front serials-back
+
+  -- line by line
+  pub serial-read-back : (line : ℕ) → serialOn (take (formSize serials) (formWritten f own serials out .out)) line ≡ getD serials line 0
+  unfolding serialOn form
+  serial-read-back line = rw front (cc (number-back, serials-back))
+
+-- bytes behind a form stay, and so does the length, whatever the number
+pub form-kept : (f own : ℕ) (serials out : List ℕ) →
+    (drop (formSize serials) (formWritten f own serials out .out) ≡ drop (formSize serials) out) × (length (formWritten f own serials out .out) ≡ length out)
+unfolding formWritten
+form-kept f own serials out =
+    kept-bytes (rosterNumber f own serials) (formSize serials) out (putForm out f own serials) (drop-form out f own serials) (length-form out f own serials)
+
+-- a form that is refused is not written at all
+pub form-refused : (f own : ℕ) (serials out : List ℕ) → (formWritten f own serials out .number ≡ 0 → ⊥) →
+    (formWritten f own serials out .written ≡ 0) × (formWritten f own serials out .out ≡ out)
+unfolding formWritten
+form-refused f own serials out = refused-bytes (rosterNumber f own serials) (formSize serials) out (putForm out f own serials)
+
+-- a form that is taken, written over itself, stays
+form-self : (b : List ℕ) → Bytes b → field 2 b 2 ≡ 8 → putForm b (faultsOf b) (ownOf b) (serialsOf b) ≡ b
+unfolding putForm
+form-self b h e =
+    cc
+    (field-one b 0, field-one b 1, length-words (linesOf b) 4 b 8, put-field 1 b 0 h, put-field 1 b 1 h, put-field 2 b 2 h, put-field 4 b 4 h, putWords-words (linesOf b) 4 b 8 h)
+
+-- what the form reader took, the form writer writes byte for byte, over the front of the output
+pub form-written-again : (b out : List ℕ) → Bytes b → formNumber b ≡ 0 → length b ≤ length out →
+    formWritten (faultsOf b) (ownOf b) (serialsOf b) out ≡ record { number = 0; written = length b; out = b ++ drop (length b) out }
+unfolding formWritten
+form-written-again b out h e p =
+    wrote-bytes (rosterNumber (faultsOf b) (ownOf b) (serialsOf b)) (formSize (serialsOf b)) out (putForm out (faultsOf b) (ownOf b) (serialsOf b)) b ok (omega (arith, size, lines))
+    (take-form out (faultsOf b) (ownOf b) (serialsOf b) b (omega (arith, size, lines)) (omega (arith, size, lines))
+    ∙ ap (λ (l : List ℕ). take (formSize (serialsOf b)) l) (form-self b h (settled _ _ (λ n. g .0 (inl (inr n))))))
+    (drop-form out (faultsOf b) (ownOf b) (serialsOf b))
+  where
+    g : Given (formChecks b) 0
+    g = form-says b .exactly 0 .0 (form-told b ∙ e)
+
+    lines : length (serialsOf b) ≡ linesOf b
+    lines = length-words (linesOf b) 4 b 8
+
+    size : length b ≡ 8 + 4 * linesOf b
+    size = settled _ _ (λ n. g .0 (inr n))
+
+    ok : formWritten (faultsOf b) (ownOf b) (serialsOf b) out .number ≡ 0
+    ok =
+        form-writer-says (faultsOf b) (ownOf b) (serialsOf b) out .exactly 0 .1
+        (rw lines (g .1 .0, (g .1 .1 .0, (g .1 .1 .1 .0, (g .1 .1 .1 .1 .0, (omega (arith, size), refl))))))
+
+-- ---- the frame
+
+module _ (out : List ℕ) (kind tick : ℕ) where
+  length-frame : length (putFrame out 0 kind tick) ≡ length out
+  unfolding putFrame
+  length-frame = simp length-put
+
+  drop-frame : drop 8 (putFrame out 0 kind tick) ≡ drop 8 out
+  unfolding putFrame
+  drop-frame = drop-put 4 _ 4 tick 8 (omega arith) ∙ drop-put 3 _ 1 0 8 (omega arith) ∙ drop-put 1 out 0 kind 8 (omega arith)
+
+  take-frame : (b : List ℕ) → 8 ≤ length out → 8 ≤ length b → take 8 (putFrame out 0 kind tick) ≡ take 8 (putFrame b 0 kind tick)
+  unfolding putFrame
+  take-frame b p q =
+      take-put 4 _ _ 4 tick (simp length-put (omega arith)) (simp length-put (omega arith))
+      (take-put 3 _ _ 1 0 (simp length-put (omega arith)) (simp length-put (omega arith))
+      (take-put 1 out b 0 kind (omega arith) (omega arith) refl))
+
+-- the three bytes behind the kind
+zero-bytes : (b : List ℕ) → (field 3 b 1 ≡ 0) ↔ ((getD b 1 0 ≡ 0) × (getD b 2 0 ≡ 0) × (getD b 3 0 ≡ 0))
+unfolding field
+zero-bytes b = omega arith
+
+-- a frame that the writer gave number 0
+module _ (last kind tick : ℕ) (out : List ℕ) (fits : tick < 2 ^ 32) (ok : frameWritten last kind tick out .number ≡ 0) where
+  frame : List ℕ
+  frame = take 8 (putFrame out 0 kind tick)
+
+  sent :
+      (frameWriteNumber last kind tick ≡ 0) × (8 ≤ length out)
+      × (frameWritten last kind tick out ≡ record { number = 0; written = 8; out = putFrame out 0 kind tick })
+  unfolding frameWritten
+  sent = wrote (frameWriteNumber last kind tick) 8 out (putFrame out 0 kind tick) ok
+
+  kind-back : getD frame 0 0 ≡ kind
+  unfolding frame putFrame
+  kind-back =
+      sym (field-one frame 0)
+      ∙ field-take 1 8 _ 0 (omega arith)
+      ∙ field-put-other 1 4 _ 4 tick 0 (omega arith)
+      ∙ field-put-other 1 3 _ 1 0 0 (omega arith)
+      ∙ field-put 1 out 0 kind (omega (arith, sent .1)) small
+    where
+      small : kind < 256
+      small = elim (decLt kind 256) [ yes p ↦ p | no p ↦ absurd (frame-writer-says last kind tick out .exactly 0 .0 ok .0 (omega arith)) ]
+
+  zeros-back : field 3 frame 1 ≡ 0
+  unfolding frame putFrame
+  zeros-back =
+      field-take 3 8 _ 1 (omega arith)
+      ∙ field-put-other 3 4 _ 4 tick 1 (omega arith)
+      ∙ field-put 3 _ 1 0 (simp length-put (omega (arith, sent .1))) (omega arith)
+
+  tick-back : field 4 frame 4 ≡ tick
+  unfolding frame putFrame
+  tick-back = field-take 4 8 _ 4 (omega arith) ∙ field-put 4 _ 4 tick (simp length-put (sent .1)) fits
+
+  frame-number-back : frameNumber last frame ≡ 0
+  unfolding frameNumber frame
+  frame-number-back = cc (size, kind-back, zero-bytes frame .0 zeros-back .0, zero-bytes frame .0 zeros-back .1, zero-bytes frame .0 zeros-back .2, tick-back, or-false (badKind kind), sent .0)
+    where
+      size : length frame ≡ 8
+      size = length-take-le 8 (putFrame out 0 kind tick) (omega (arith, sent .1, length-frame out kind tick))
+
+  -- its bytes are read back with kind and tick
+  pub frame-read-back : frameTold last (take 8 (frameWritten last kind tick out .out)) ≡ record { number = 0; kind = kind; tick = tick }
+  unfolding frameTold frame
+  frame-read-back = rw (ap (λ (t : WriteTold). t .out) (sent .2)) (cc (frame-number-back, kind-back, tick-back))
+
+-- bytes behind a frame stay, and so does the length, whatever the number
+pub frame-kept : (last kind tick : ℕ) (out : List ℕ) →
+    (drop 8 (frameWritten last kind tick out .out) ≡ drop 8 out) × (length (frameWritten last kind tick out .out) ≡ length out)
+unfolding frameWritten
+frame-kept last kind tick out =
+    kept-bytes (frameWriteNumber last kind tick) 8 out (putFrame out 0 kind tick) (drop-frame out kind tick) (length-frame out kind tick)
+
+-- a frame that is refused is not written at all
+pub frame-refused : (last kind tick : ℕ) (out : List ℕ) → (frameWritten last kind tick out .number ≡ 0 → ⊥) →
+    (frameWritten last kind tick out .written ≡ 0) × (frameWritten last kind tick out .out ≡ out)
+unfolding frameWritten
+frame-refused last kind tick out = refused-bytes (frameWriteNumber last kind tick) 8 out (putFrame out 0 kind tick)
+
+-- a frame that is taken, written over itself, stays
+frame-self : (b : List ℕ) → Bytes b → field 3 b 1 ≡ 0 → putFrame b 0 (getD b 0 0) (field 4 b 4) ≡ b
+unfolding putFrame
+frame-self b h e = cc (field-one b 0, put-field 1 b 0 h, put-field 3 b 1 h, put-field 4 b 4 h)
+
+-- what the frame reader took, the frame writer writes byte for byte, over the front of the output
+pub frame-written-again : (last : ℕ) (b out : List ℕ) → Bytes b → frameNumber last b ≡ 0 → length b ≤ length out →
+    frameWritten last (getD b 0 0) (field 4 b 4) out ≡ record { number = 0; written = length b; out = b ++ drop (length b) out }
+unfolding frameWritten
+frame-written-again last b out h e p =
+    wrote-bytes (frameWriteNumber last (getD b 0 0) (field 4 b 4)) 8 out (putFrame out 0 (getD b 0 0) (field 4 b 4)) b ok size
+    (take-frame out (getD b 0 0) (field 4 b 4) b (omega (arith, size)) (omega (arith, size)) ∙ ap (λ (l : List ℕ). take 8 l) (frame-self b h zeros))
+    (drop-frame out (getD b 0 0) (field 4 b 4))
+  where
+    g : Given (frameChecks last b) 0
+    g = frame-says last b .exactly 0 .0 (frame-told last b ∙ e)
+
+    size : length b ≡ 8
+    size = settled _ _ (λ n. g .0 (inl (inl (inl (inl n)))))
+
+    zeros : field 3 b 1 ≡ 0
+    zeros =
+        zero-bytes b .1 (settled _ _ (λ n. g .0 (inl (inl (inr n)))), settled _ _ (λ n. g .0 (inl (inr n))), settled _ _ (λ n. g .0 (inr n)))
+
+    ok : frameWritten last (getD b 0 0) (field 4 b 4) out .number ≡ 0
+    ok =
+        frame-writer-says last (getD b 0 0) (field 4 b 4) out .exactly 0 .1
+        (λ k. g .0 (inl (inl (inl (inr k)))), (g .1 .0, (omega (arith, size), refl)))

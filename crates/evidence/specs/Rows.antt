@@ -3,10 +3,10 @@
 -- wider masks is another value of the same layout.
 use Prim.Native.Nat.{ℕ, zero, suc, _+_, _*_}
 use mathlib.Core.List.{List, [], _∷_, map}
-use mathlib.Core.Bool.{cond}
-use lib.Dec.{eqb}
+use mathlib.Core.Bool.{Bool, true, cond, _&&_}
+use lib.Dec.{eqb, leb}
 use Rattle.forms.specs.Field.{field, putField}
-use Rattle.evidence.specs.Ticks.{Held, add}
+use Rattle.evidence.specs.Ticks.{Held, add, proper}
 
 -- what is held from one sender
 pub record Row : Type 0 where
@@ -63,3 +63,12 @@ creditOf w serial kind j row = cond (eqb (row .serial) serial) (creditRow w kind
 
 unfoldable pub credit : ℕ → ℕ → ℕ → ℕ → List Row → List Row
 credit w serial kind j rows = map (creditOf w serial kind j) rows
+
+-- ---- rows as a sound image may hold them: every set proper, its top at most the last tick
+
+unfoldable pub properSet : ℕ → ℕ → Held → Bool
+properSet w last s = leb (s .top) last && proper w s
+
+unfoldable pub properRows : ℕ → ℕ → List Row → Bool
+properRows w last [] = true
+properRows w last (row ∷ rows) = properSet w last (row .echo) && (properSet w last (row .init) && properRows w last rows)

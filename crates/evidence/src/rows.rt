@@ -12,7 +12,7 @@ ghost use lib.ListN.{length};
 ghost use Rattle.forms.specs.Field.{words};
 ghost use Rattle.forms.specs.Roster.{count};
 ghost use Rattle.evidence.specs.Holders.{holders, greatest, placeOf, foundBy, bestOf};
-ghost use Rattle.evidence.specs.Rows.{setPlace, setAt, putSet, rowsAt, putRows, credit};
+ghost use Rattle.evidence.specs.Rows.{setPlace, setAt, putSet, rowsAt, putRows, credit, properSet, properRows};
 ghost use Rattle.evidence.specs.Sets.{heldBy};
 
 // Bytes of a row: serial, then top and mask of the echo set and of the init set.
@@ -110,12 +110,12 @@ fn better(b: &[u8], i: usize, n: usize, kind: u32, w: u32, m: usize, s: Ticks, b
 }
 
 // The greatest tick of a kind, as tick + 1, that is at least low and that m of the n rows from i on hold; 0 for none.
-pub fn find_greatest(b: &[u8], i: usize, n: usize, kind: u32, w: u32, m: usize, low: u32) -> u64
+pub fn find_greatest(b: &[u8], i: usize, n: usize, kind: u32, w: u32, m: usize, low: u64) -> u64
     requires { ⌜ (i + n * 28 ≤ length (now b)) × (w ≤ 64) ⌝ }
-    ensures { λ r. ⌜ r ≡ greatest w kind m low (rowsAt 8 n (now (b .entry)) i) ⌝ }
+    ensures { λ r. ⌜ (r ≡ greatest w kind m low (rowsAt 8 n (now (b .entry)) i)) × (r ≤ 4294967296) ⌝ }
 {
     let place = set_place(kind);
-    let mut best = low as u64;
+    let mut best = low;
     let mut at = i;
     let mut left = n;
     while 0 < left {
@@ -123,7 +123,7 @@ pub fn find_greatest(b: &[u8], i: usize, n: usize, kind: u32, w: u32, m: usize, 
         at += ROW;
         left -= 1;
     }
-    if (low as u64) < best { best } else { 0 }
+    if low < best { best } else { 0 }
 }
 
 // Credits the frame (kind, j) to the row of a serial.
@@ -136,4 +136,32 @@ pub fn credit_row(b: &mut [u8], i: usize, n: usize, w: u32, serial: u32, kind: u
         let after = read_set(b, at).after(w, kind, j);
         store_set(b, at, after);
     }
+}
+
+// Whether a set is proper, with its top at most the last tick.
+fn is_proper_set(s: Ticks, w: u32, last: u32) -> bool
+    requires { ⌜ w ≤ 64 ⌝ }
+    ensures { λ r. ⌜ r ≡ properSet w last (heldBy s) ⌝ }
+{
+    if s.top <= last { s.is_proper(w) } else { false }
+}
+
+// Whether the n rows from i on are as a sound image may hold them.
+pub fn are_proper(b: &[u8], i: usize, n: usize, w: u32, last: u32) -> bool
+    requires { ⌜ (i + n * 28 ≤ length (now b)) × (w ≤ 64) ⌝ }
+    ensures { λ r. ⌜ r ≡ properRows w last (rowsAt 8 n (now (b .entry)) i) ⌝ }
+{
+    let mut at = i;
+    let mut left = n;
+    while 0 < left {
+        if !is_proper_set(read_set(b, at + 4), w, last) {
+            return false;
+        }
+        if !is_proper_set(read_set(b, at + 16), w, last) {
+            return false;
+        }
+        at += ROW;
+        left -= 1;
+    }
+    true
 }

@@ -11,7 +11,7 @@ use denote.Ref.{now}
 use Rattle.evidence.specs.Holders.{bestOf, bestAmong, greatest}
 use Rattle.evidence.specs.Rows.{rowsAt, setAt, setPlace}
 use Rattle.evidence.specs.Ticks.{Held}
-use Rattle.evidence.proofs.Columns.{among-down, among-end}
+use Rattle.evidence.proofs.Columns.{among-down, among-end, among-le}
 use Rattle.evidence.proofs.Down.{best-raise, among-above}
 use Rattle.evidence.proofs.rows.find_greatest.Statement.{statement}
 use Rattle.evidence.proofs.rows.find_greatest.Tie as tie
@@ -66,7 +66,7 @@ returns c =
     let l = c .before .before .loop in
     let all = rowsAt 8 (a .n) (now (a .b)) (a .i) in
     let end = among-end (a .w) (a .kind) (a .m) (a .low) all 8 (l .left) (now (a .b)) (l .at) (omega arith) in
-    omega (arith, l .inv .0, c .if1 .taken, end)
+    (omega (arith, l .inv .0, c .if1 .taken, end), omega (arith, l .inv .0, c .if1 .taken, end, among-le (a .w) (a .kind) (a .m) (a .low) all 8 (a .n) (now (a .b)) (a .i) (λ k. c .before .before .before .before .shared-slice-known .given k .fits)))
 
 returns-2 : tie.Need-returns-2 Inv-loop μ-loop
 unfolding greatest
@@ -75,7 +75,7 @@ returns-2 c =
     let l = c .before .before .loop in
     let all = rowsAt 8 (a .n) (now (a .b)) (a .i) in
     let end = among-end (a .w) (a .kind) (a .m) (a .low) all 8 (l .left) (now (a .b)) (l .at) (omega arith) in
-    ⊎-elim (λ e. omega (arith, e)) (λ p. omega (arith, l .inv .0, c .if1 .left, end, p)) (among-above (a .w) (a .kind) (a .m) all (a .low) all)
+    (⊎-elim (λ e. omega (arith, e)) (λ p. omega (arith, l .inv .0, c .if1 .left, end, p)) (among-above (a .w) (a .kind) (a .m) all (a .low) all), omega arith)
 
 pub find-greatest-spec : {M : Type 1} → statement M
 find-greatest-spec =

@@ -4,6 +4,7 @@ pub mod Added
 pub mod Columns
 pub mod Credits
 pub mod Down
+pub mod Encoded
 pub mod Greatest
 pub mod Histories
 pub mod Layouts

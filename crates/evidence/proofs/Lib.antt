@@ -6,6 +6,7 @@ pub mod Credits
 pub mod Down
 pub mod Encoded
 pub mod Greatest
+pub mod Growth
 pub mod Histories
 pub mod Layouts
 pub mod Masks

@@ -194,7 +194,7 @@ insert-proper w s t h g = go (insertion w s t h)
 top-held : (w : ℕ) (s : Held) → 0 < w → s .mask % 2 ≡ 1 → holds w s (s .top) ≡ 1
 top-held w s h e = holds-at w s (s .top) 0 (omega arith) h ∙ bit-zero (s .mask) ∙ e
 
-bare : (w : ℕ) (s : Held) → s .mask ≡ 0 → (u : ℕ) → holds w s u ≡ 0
+pub bare : (w : ℕ) (s : Held) → s .mask ≡ 0 → (u : ℕ) → holds w s u ≡ 0
 bare w s e u = go (place w s u)
   where
     go : Place w s u → holds w s u ≡ 0

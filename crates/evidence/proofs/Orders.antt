@@ -13,7 +13,7 @@ use Rattle.evidence.specs.Holders.{holders, firstDown, bestOf, bestAmong
 
 -- a number made of one value for each row, joined in a way that lets two neighbours change places
 module _ (over : List Row → ℕ) (value : Row → ℕ) (join : ℕ → ℕ → ℕ) (step : (row : Row) (rows : List Row) → over (row ∷ rows) ≡ join (value row) (over rows)) (change : (a b c : ℕ) → join a (join b c) ≡ join b (join a c)) where
-  joined-order : {rows others : List Row} → List·Permᴰ rows others → over rows ≡ over others
+  pub joined-order : {rows others : List Row} → List·Permᴰ rows others → over rows ≡ over others
   joined-order List·Permᴰ·nil = refl
   joined-order (List·Permᴰ·cons e p) = step _ _ ∙ ap₂ join (ap value e) (joined-order p) ∙ sym (step _ _)
   joined-order (List·Permᴰ·swap {l = rows} d e) = pair _ _ rows ∙ change _ _ _ ∙ ap₂ (λ (x y : ℕ). join x (join y (over rows))) (ap value e) (ap value d) ∙ sym (pair _ _ rows)

@@ -1,0 +1,79 @@
+-- A fresh node is sound: nothing is held, so no rule can fire.
+-- Assumes nothing.
+use mathlib.Core.Path.{_≡_, refl, sym, ap, ap₂, _∙_, subst}
+use mathlib.Core.Logic.{_⊎_, inl, inr}
+use mathlib.Core.Bool.{Bool, true, false, cond, _&&_}
+use mathlib.Core.List.{List, [], _∷_, map}
+use Prim.Native.Nat.{ℕ, zero, suc, _+_, _-_, _*_, _≤_, _<_}
+use native.Mathlib.Omega.{arith}
+use borrow.Author.Tests.{lt-leb}
+use lib.ListN.{length}
+use lib.Dec.{ltb, leb, eqb}
+use lib.Pow.{pow-pos}
+use Rattle.forms.specs.Roster.{rosterNumber}
+use Rattle.evidence.specs.Ticks.{Held, empty, holds}
+use Rattle.evidence.specs.Rows.{Row, setOf}
+use Rattle.evidence.specs.Holders.{holders, greatest}
+use Rattle.evidence.proofs.Greatest.{greatest-none}
+use Rattle.evidence.proofs.Growth.{Kept, AllKept}
+use Rattle.evidence.proofs.Members.{bare}
+use Rattle.node.specs.Delivery.{State}
+use Rattle.node.specs.Describe.{freshNode, freshRows}
+use Rattle.node.specs.Rules.{orJump, orWake, firstRule}
+use Rattle.node.specs.declared.node.Rule.{Rule}
+use Rattle.node.specs.declared.node.Rule.the-variants.{Rest, Echo, Tick, Jump, Wake}
+use Rattle.node.proofs.Stays.{Sound, roster-size}
+
+pub fresh-serials : (serials : List ℕ) → map (λ (row : Row). row .serial) (freshRows serials) ≡ serials
+unfolding freshRows
+fresh-serials [] = refl
+fresh-serials (x ∷ xs) = ap (λ (l : List ℕ). x ∷ l) (fresh-serials xs)
+
+pub fresh-length : (serials : List ℕ) → length (freshRows serials) ≡ length serials
+unfolding freshRows
+fresh-length [] = refl
+fresh-length (x ∷ xs) = ap suc (fresh-length xs)
+
+empty-kept : (w last : ℕ) → Kept w last empty
+empty-kept w last = record { bounded = omega arith; good = record { narrow = pow-pos w; low = pow-pos (0 + 1); shape = inl (refl, refl) } }
+
+fresh-kept : (w last : ℕ) (serials : List ℕ) → AllKept w last (freshRows serials)
+unfolding freshRows
+fresh-kept w last [] = tt
+fresh-kept w last (x ∷ xs) = ((empty-kept w last, empty-kept w last), fresh-kept w last xs)
+
+-- nothing is held
+fresh-held : (w kind t : ℕ) (serials : List ℕ) → holders w kind t (freshRows serials) ≡ 0
+unfolding holders freshRows setOf
+fresh-held w kind t [] = refl
+fresh-held w kind t (x ∷ xs) = ap₂ _+_ (go (eqb kind 2)) (fresh-held w kind t xs)
+  where
+    go : (e : Bool) → holds w (cond e empty empty) t ≡ 0
+    go true = bare w empty refl t
+    go false = bare w empty refl t
+
+fresh-none : (w kind m low : ℕ) (serials : List ℕ) → greatest w kind m low (freshRows serials) ≡ 0
+fresh-none w kind m low serials = greatest-none w kind m low (freshRows serials) (λ t p q r. omega (arith, fresh-held w kind t serials))
+
+fresh-rest : (w last f own : ℕ) (serials : List ℕ) → f < length serials → firstRule w last (freshRows serials) (freshNode (length serials) f own) ≡ Rest
+unfolding firstRule
+fresh-rest w last f own serials p =
+    ap₂ (λ (a b : Bool). cond (a && ltb 0 0) Echo (cond (b && ltb 0 0) Echo (cond (leb (length serials - f) (holders w 2 0 (freshRows serials)) && ltb 0 last) Tick (orJump (greatest w 2 (f + 1) (0 + 2) (freshRows serials)) (orWake (greatest w 1 (f + 1) 0 (freshRows serials)))))))
+    (few 1) (few 2)
+    ∙ ap (λ (c : Bool). cond (c && ltb 0 last) Tick (orJump (greatest w 2 (f + 1) (0 + 2) (freshRows serials)) (orWake (greatest w 1 (f + 1) 0 (freshRows serials)))))
+    (lt-leb (length serials - f) (holders w 2 0 (freshRows serials)) (omega (arith, fresh-held w 2 0 serials)))
+    ∙ ap₂ (λ (l x : ℕ). orJump l (orWake x)) (fresh-none w 2 (f + 1) (0 + 2) serials) (fresh-none w 1 (f + 1) 0 serials)
+  where
+    few : (kind : ℕ) → leb (f + 1) (holders w kind 0 (freshRows serials)) ≡ false
+    few kind = lt-leb (f + 1) (holders w kind 0 (freshRows serials)) (omega (arith, fresh-held w kind 0 serials))
+
+pub fresh-sound : (w last f own : ℕ) (serials : List ℕ) → rosterNumber f own serials ≡ 0 → Sound w last (record { node = freshNode (length serials) f own; rows = freshRows serials })
+fresh-sound w last f own serials e =
+    record {
+      roster = ap (rosterNumber f own) (fresh-serials serials) ∙ e;
+      mode = omega arith;
+      sent = omega arith;
+      tick = omega arith;
+      sets = fresh-kept w last serials;
+      rest = fresh-rest w last f own serials (omega (arith, roster-size f own serials e));
+    }

@@ -1,0 +1,140 @@
+-- What the tests of a sound image say, part by part and back; and of its roster, that every serial stands once and f is below n.
+-- Assumes nothing.
+use mathlib.Core.Path.{_≡_, refl, ap, subst}
+use mathlib.Core.Bool.{Bool, true, false, cond, _&&_, and-eq-true-iff}
+use mathlib.Core.List.{List, [], _∷_, map}
+use Prim.Native.Nat.{ℕ, _+_, _≤_}
+use native.Mathlib.Decide.{decLt}
+use native.Mathlib.Omega.{arith}
+use lib.ListN.{length, getD}
+use lib.Dec.{eqb}
+use borrow.Author.Tests.{ltb-false, le-ltb, leb-true, le-leb, eqb-true, eq-eqb, not-true}
+use Rattle.forms.specs.Field.{field, words}
+use Rattle.forms.specs.Roster.{count, twins, rosterNumber}
+use Rattle.forms.proofs.Meaning.{roster-says, twice-says}
+use Rattle.forms.proofs.Rosters.{Limits, roster-limits}
+use Rattle.forms.proofs.Words.{length-words}
+use Rattle.evidence.specs.Rows.{Row, rowSize, rowsAt, properRows}
+use Rattle.evidence.proofs.Layouts.{serials-of-rows}
+use Rattle.node.specs.Delivery.{State}
+use Rattle.node.specs.Image.{Layout, layout, imageSize, nodeOf, stateOf, fixedHeader, atRest, soundState, soundImage}
+use Rattle.node.specs.Rules.{firstRule}
+use Rattle.node.specs.Steps.{RowsIn}
+
+-- ---- the parts of the tests
+
+pub record SoundNode (w last : ℕ) (s : State) : Type 0 where
+  pub roster : rosterNumber (s .node .faults) (s .node .own) (map (λ (row : Row). row .serial) (s .rows)) ≡ 0
+  pub mode : s .node .mode ≤ 1
+  pub sent : s .node .sent ≤ s .node .tick
+  pub tick : s .node .tick ≤ last
+  pub proper : properRows w last (s .rows) ≡ true
+  pub rest : atRest (firstRule w last (s .rows) (s .node)) ≡ true
+
+pub record SoundBytes (L : Layout) (last : ℕ) (b : List ℕ) : Type 0 where
+  pub header : 32 ≤ length b
+  pub stated : field 2 b 18 ≤ length b
+  pub fixed : fixedHeader L b ≡ true
+  pub node : SoundNode (L .window) last (stateOf L b)
+
+both : (s t : Bool) → (s && t) ≡ true → (s ≡ true) × (t ≡ true)
+both s t e = and-eq-true-iff s t .0 e
+
+module _ (w last : ℕ) (s : State) where
+  pub sound-node : soundState w last s ≡ true → SoundNode w last s
+  unfolding soundState
+  sound-node e =
+      let roster = both _ _ e in
+      let mode = both _ _ (roster .1) in
+      let sent = both _ _ (mode .1) in
+      let tick = both _ _ (sent .1) in
+      let proper = both _ _ (tick .1) in
+      record {
+        roster = eqb-true _ _ (roster .0);
+        mode = leb-true _ _ (mode .0);
+        sent = leb-true _ _ (sent .0);
+        tick = leb-true _ _ (tick .0);
+        proper = proper .0;
+        rest = proper .1;
+      }
+
+  pub node-sound : SoundNode w last s → soundState w last s ≡ true
+  unfolding soundState
+  node-sound h =
+      rw (eq-eqb _ 0 (h .roster), le-leb _ 1 (h .mode), le-leb _ _ (h .sent), le-leb _ last (h .tick), h .proper, h .rest)
+
+module _ (L : Layout) (last : ℕ) (b : List ℕ) where
+  pub sound-bytes : soundImage L last b ≡ true → SoundBytes L last b
+  unfolding soundImage
+  sound-bytes e =
+      let header = both _ _ e in
+      let stated = both _ _ (header .1) in
+      let fixed = both _ _ (stated .1) in
+      record {
+        header = ltb-false _ _ (not-true _ (header .0));
+        stated = ltb-false _ _ (not-true _ (stated .0));
+        fixed = fixed .0;
+        node = sound-node (L .window) last (stateOf L b) (fixed .1);
+      }
+
+  pub bytes-sound : SoundBytes L last b → soundImage L last b ≡ true
+  unfolding soundImage
+  bytes-sound h =
+      rw (le-ltb (length b) 32 (h .header), le-ltb (length b) (field 2 b 18) (h .stated), h .fixed, node-sound (L .window) last (stateOf L b) (h .node))
+
+-- ---- the stated size is what n says, and the rows lie inside
+
+pub stated-size : (L : Layout) (b : List ℕ) → fixedHeader L b ≡ true → field 2 b 18 ≡ imageSize L (getD b 0 0)
+unfolding fixedHeader
+stated-size L b e =
+    let mark = both (eqb (getD b 3 0) (L .mark)) _ e in
+    let offset = both (eqb (field 2 b 16) 32) _ (mark .1) in
+    let size = both (eqb (field 2 b 18) (imageSize L (getD b 0 0))) (eqb (field 4 b 20) 0 && (eqb (field 4 b 24) 0 && eqb (field 4 b 28) 0)) (offset .1) in
+    eqb-true _ _ (size .0)
+
+pub rows-inside : (L : Layout) (b : List ℕ) → fixedHeader L b ≡ true → field 2 b 18 ≤ length b → imageSize L (getD b 0 0) ≤ length b
+rows-inside L b e p = subst (λ (n : ℕ). n ≤ length b) (stated-size L b e) p
+
+-- ---- a roster in order
+
+-- no serial stands twice
+pub roster-twins : (f own : ℕ) (serials : List ℕ) → rosterNumber f own serials ≡ 0 → twins serials ≡ 0
+roster-twins f own serials z =
+    elim (decLt 0 (twins serials)) [ yes p ↦ absurd (roster-says f own serials .exactly 0 .0 z .1 .1 .0 (twice-says serials .0 p)) | no q ↦ omega arith ]
+
+pub count-once : (x : ℕ) (l : List ℕ) → twins l ≡ 0 → count x l ≤ 1
+unfolding count twins
+count-once x [] e = omega arith
+count-once x (y ∷ l) e = go (eqb y x) refl (count-once x l (omega arith))
+  where
+    go : (t : Bool) → eqb y x ≡ t → count x l ≤ 1 → cond t 1 0 + count x l ≤ 1
+    go true q below = omega (arith, ap (λ (z : ℕ). count z l) (eqb-true y x q))
+    go false q below = omega arith
+
+-- f and n are within the limits
+pub roster-lines : (f own n s : ℕ) (b : List ℕ) (i : ℕ) → rosterNumber f own (words n s b i) ≡ 0 → Limits f n
+roster-lines f own n s b i z = subst (λ (m : ℕ). Limits f m) (length-words n s b i) (roster-limits f own (words n s b i) z)
+
+-- the same of rows, whose serials are such a column
+rows-roster : (f own mb n : ℕ) (b : List ℕ) (i : ℕ) → rosterNumber f own (map (λ (row : Row). row .serial) (rowsAt mb n b i)) ≡ 0 → rosterNumber f own (words n (rowSize mb) b i) ≡ 0
+rows-roster f own mb n b i z = rw (serials-of-rows mb n b i) at z
+
+pub rows-limits : (f own mb n : ℕ) (b : List ℕ) (i : ℕ) → rosterNumber f own (map (λ (row : Row). row .serial) (rowsAt mb n b i)) ≡ 0 → Limits f n
+rows-limits f own mb n b i z = roster-lines f own n (rowSize mb) b i (rows-roster f own mb n b i z)
+
+-- ---- what a sound image gives to a delivery
+
+module _ (last : ℕ) (b : List ℕ) (h : SoundBytes layout last b) where
+  sound-roster : rosterNumber (getD b 1 0) (field 4 b 4) (words (getD b 0 0) 28 b 32) ≡ 0
+  unfolding stateOf nodeOf
+  sound-roster = rows-roster (getD b 1 0) (field 4 b 4) 8 (getD b 0 0) b 32 (h .node .roster)
+
+  pub sound-limits : Limits (getD b 1 0) (getD b 0 0)
+  sound-limits = roster-lines (getD b 1 0) (field 4 b 4) (getD b 0 0) 28 b 32 sound-roster
+
+  pub sound-rows : RowsIn (nodeOf b) b 32
+  unfolding nodeOf
+  sound-rows = record { inside = rows-inside layout b (h .fixed) (h .stated); fewer = omega (arith, sound-limits) }
+
+  pub sound-once : (port : ℕ) → count port (words (getD b 0 0) 28 b 32) ≤ 1
+  sound-once port = count-once port (words (getD b 0 0) 28 b 32) (roster-twins (getD b 1 0) (field 4 b 4) (words (getD b 0 0) 28 b 32) sound-roster)

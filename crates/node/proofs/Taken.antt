@@ -1,0 +1,97 @@
+-- What a form, a frame and a delivery say where they are taken, with number 0: a form keeps the limits, a frame is whole, and a
+-- delivery has room, a sound image, a port on its roster and such a frame.
+-- Assumes nothing.
+use mathlib.Core.Path.{_≡_, refl, sym, ap, _∙_}
+use mathlib.Core.Bool.{Bool, true, false, cond}
+use mathlib.Core.Logic.{_⊎_, inl, inr}
+use mathlib.Core.List.{List}
+use Prim.Native.Nat.{ℕ, zero, suc, _≤_}
+use native.Mathlib.Decide.{decLe, ℕ-discrete}
+use native.Mathlib.Omega.{arith}
+use lib.ListN.{length, getD}
+use lib.Dec.{ltb, eqb}
+use borrow.Author.Tests.{ltb-false, eqb-false}
+use Rattle.forms.specs.Field.{field, words}
+use Rattle.forms.specs.Form.{linesOf, faultsOf, ownOf, serialsOf, misplaced, formNumber, FormTold, formTold, toldBy}
+use Rattle.forms.specs.Frame.{frameNumber}
+use Rattle.forms.specs.Number.{numberOf, orElse}
+use Rattle.forms.specs.Roster.{count, rosterNumber}
+use Rattle.forms.specs.declared.answer.Refusal.{Refusal}
+use Rattle.forms.specs.declared.form.Form.{Form}
+use Rattle.forms.specs.declared.form.FormRead.{FormRead}
+use Rattle.forms.specs.declared.form.FormRead.the-variants.{Taken as TakenForm}
+use Rattle.forms.proofs.Meaning.{frame-told, frame-says}
+use Rattle.forms.proofs.Rosters.{Limits}
+use Rattle.forms.proofs.Told.{refusal, told-taken, form-taken}
+use Rattle.evidence.specs.Rows.{rowSize}
+use Rattle.node.specs.Calls.{bootNumber, deliverNumber}
+use Rattle.node.specs.Image.{Layout, soundImage}
+use Rattle.node.proofs.Sound.{roster-lines}
+
+-- ---- a form
+
+-- a number that is not 0 is the first of two
+else-first : (number next : ℕ) → eqb number 0 ≡ false → orElse number next ≡ number
+else-first zero next e = absurd (eqb-false 0 0 e refl)
+else-first (suc n) next e = refl
+
+-- what refuses the form refuses boot
+pub boot-refused : (L : Layout) (form : List ℕ) (imageLength outLength : ℕ) (why : Refusal) → formNumber form ≡ numberOf why → bootNumber L form imageLength outLength ≡ numberOf why
+unfolding bootNumber
+boot-refused L form imageLength outLength why e = rw e (else-first (numberOf why) _ (refusal why))
+
+module _ (b : List ℕ) where
+  -- the fields that the reader told are the form's own
+  pub told-form : (read : FormRead) (form : Form) → toldBy read ≡ formTold b → read ≡ TakenForm form →
+      (formNumber b ≡ 0) × (_≡_ {A = Form} form (record { lines = linesOf b; faults = faultsOf b; own = ownOf b }))
+  told-form read form told e =
+      let said : toldBy (TakenForm form) ≡ formTold b = ap toldBy (sym e) ∙ told in
+      let z = told-taken b (form .lines) (form .faults) (form .own) said .0 in
+      (z, ap (λ (t : FormTold). record { lines = t .lines; faults = t .faults; own = t .own }) (said ∙ form-taken b z))
+
+  form-roster : formNumber b ≡ 0 → rosterNumber (faultsOf b) (ownOf b) (serialsOf b) ≡ 0
+  unfolding formNumber
+  form-roster z = go (misplaced b) z
+    where
+      go : (t : Bool) → cond t 1 (rosterNumber (faultsOf b) (ownOf b) (serialsOf b)) ≡ 0 → rosterNumber (faultsOf b) (ownOf b) (serialsOf b) ≡ 0
+      go true e = absurd (omega arith)
+      go false e = e
+
+  pub form-limits : formNumber b ≡ 0 → Limits (faultsOf b) (linesOf b)
+  form-limits z = roster-lines (faultsOf b) (ownOf b) (linesOf b) 4 b 8 (form-roster z)
+
+-- ---- a frame and a delivery
+
+-- a frame that is taken is 8 long, of a known kind, and not late
+pub record WholeFrame (last : ℕ) (b : List ℕ) : Type 0 where
+  pub size : length b ≡ 8
+  pub kind : (getD b 0 0 ≡ 1) ⊎ (getD b 0 0 ≡ 2)
+  pub tick : field 4 b 4 ≤ last
+
+pub frame-whole : (last : ℕ) (b : List ℕ) → frameNumber last b ≡ 0 → WholeFrame last b
+frame-whole last b z =
+    let given = frame-says last b .exactly 0 .0 (frame-told last b ∙ z) in
+    record {
+      size = elim (ℕ-discrete (length b) 8) [ yes e ↦ e | no ne ↦ absurd (given .0 (inl (inl (inl (inl ne))))) ];
+      kind = elim (ℕ-discrete (getD b 0 0) 1) [ yes e ↦ inl e | no ne ↦ inr (elim (ℕ-discrete (getD b 0 0) 2) [ yes e ↦ e | no nf ↦ absurd (given .0 (inl (inl (inl (inr (ne, nf)))))) ]) ];
+      tick = elim (decLe (field 4 b 4) last) [ yes p ↦ p | no np ↦ absurd (given .1 .0 (omega arith)) ];
+    }
+
+pub record Taken (L : Layout) (last : ℕ) (image : List ℕ) (port : ℕ) (frame : List ℕ) (outLength : ℕ) : Type 0 where
+  pub room : 192 ≤ outLength
+  pub sound : soundImage L last image ≡ true
+  pub listed : count port (words (getD image 0 0) (rowSize (L .masks)) image 32) ≡ 0 → ⊥
+  pub shape : frameNumber last frame ≡ 0
+
+pub deliver-taken : (L : Layout) (last : ℕ) (image : List ℕ) (port : ℕ) (frame : List ℕ) (outLength : ℕ) →
+    deliverNumber L last image port frame outLength ≡ 0 → Taken L last image port frame outLength
+unfolding deliverNumber
+deliver-taken L last image port frame outLength z =
+    go (ltb outLength 192) refl (soundImage L last image) refl (eqb (count port (words (getD image 0 0) (rowSize (L .masks)) image 32)) 0) refl z
+  where
+    go : (r : Bool) → ltb outLength 192 ≡ r → (s : Bool) → soundImage L last image ≡ s → (t : Bool) → eqb (count port (words (getD image 0 0) (rowSize (L .masks)) image 32)) 0 ≡ t →
+        cond r 7 (cond s (cond t 9 (frameNumber last frame)) 8) ≡ 0 → Taken L last image port frame outLength
+    go true p s q t u e = absurd (omega arith)
+    go false p true q true u e = absurd (omega arith)
+    go false p true q false u e = record { room = ltb-false outLength 192 p; sound = q; listed = eqb-false _ 0 u; shape = e }
+    go false p false q t u e = absurd (omega arith)

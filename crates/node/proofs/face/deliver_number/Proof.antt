@@ -1,0 +1,111 @@
+-- `face::deliver_number` meets its contract: the tests are those of the definition, one after the other, and the rows of a sound image lie inside the buffer.
+-- Assumes nothing.
+use borrow.Author.Needs.{needs}
+use mathlib.Core.Path.{_≡_, sym, ap, _∙_}
+use mathlib.Core.Bool.{true}
+use native.Mathlib.Omega.{arith}
+use denote.Ref.{now}
+use lib.Dec.{lit≤}
+use borrow.Author.Tests.{lt-ltb, le-ltb, eq-eqb, ne-eqb, not-true, not-false}
+use Rattle.forms.specs.Frame.{FrameTold, toldBy}
+use Rattle.forms.specs.declared.frame.FrameRead.{FrameRead}
+use Rattle.forms.proofs.Meaning.{frame-told}
+use Rattle.node.specs.Calls.{deliverNumber}
+use Rattle.node.specs.Describe.{lastTick}
+use Rattle.node.specs.Image.{layout, soundImage}
+use Rattle.node.proofs.Sound.{SoundBytes, sound-bytes, rows-inside}
+use Rattle.node.proofs.face.deliver_number.Statement.{statement}
+use Rattle.node.proofs.face.deliver_number.Tie as tie
+
+returns : tie.Need-returns
+unfolding deliverNumber
+returns c =
+    let a = c .before .before .before .args in
+    rw (lt-ltb (a .room) 192 (c .if1 .taken))
+
+is-sound-requires : tie.Need-is-sound-requires
+is-sound-requires c κs = search needs
+
+returns-2 : tie.Need-returns-2
+unfolding deliverNumber
+returns-2 c =
+    let a = c .before .before .before .before .before .args in
+    rw (le-ltb (a .room) 192 (c .before .before .if1 .left), sym (c .before .is-sound .ensures) ∙ not-true (c .before .is-sound .result) (c .if2 .taken))
+
+-- past the second test the image is sound
+sound : (c : tie.Else2) → soundImage layout lastTick (now (c .before .before .before .before .before .args .image)) ≡ true
+sound c = sym (c .before .is-sound .ensures) ∙ not-false (c .before .is-sound .result) (c .if2 .left)
+
+facts : (c : tie.Else2) → SoundBytes layout lastTick (now (c .before .before .before .before .before .args .image))
+facts c = sound-bytes layout lastTick (now (c .before .before .before .before .before .args .image)) (sound c)
+
+shared-slice-read-n : tie.Need-shared-slice-read-n
+shared-slice-read-n c = omega (arith, facts (c .before) .header)
+
+cast-n : tie.Need-cast-n
+cast-n c = omega (arith, c .shared-slice-known3 .given 0)
+
+count-word-requires : tie.Need-count-word-requires
+count-word-requires c κs = let h = facts (c .before) in (lit≤ tt, rows-inside layout (now (c .before .before .before .before .before .before .args .image)) (h .fixed) (h .stated))
+
+returns-3 : tie.Need-returns-3
+unfolding deliverNumber
+returns-3 c =
+    let a = c .before .before .before .before .before .before .before .before .args in
+    rw (
+      le-ltb (a .room) 192 (c .before .before .before .before .before .if1 .left),
+      sound (c .before .before .before),
+      ← c .before .count-word .ensures .0,
+      eq-eqb (c .before .count-word .result) 0 (c .if3 .taken),
+    )
+
+read-frame-requires : tie.Need-read-frame-requires
+read-frame-requires c κs = search needs
+
+enum-known-why : tie.Need-enum-known-why
+enum-known-why c = search needs
+
+number-requires : tie.Need-number-requires
+number-requires c κs = search needs
+
+enum-told : tie.Need-enum-told
+enum-told c = search needs
+
+-- past the tests of room, image and port the number is the frame's, which the reader told
+told : (c : tie.After-read-frame) →
+    let a = c .before .before .before .before .before .before .before .before .before .args in
+    deliverNumber layout lastTick (now (a .image)) (a .port) (now (a .frame)) (a .room) ≡ toldBy (c .read-frame .result) .number
+unfolding deliverNumber
+told c =
+    let a = c .before .before .before .before .before .before .before .before .before .args in
+    rw (
+      le-ltb (a .room) 192 (c .before .before .before .before .before .before .if1 .left),
+      sound (c .before .before .before .before),
+      ← c .before .before .count-word .ensures .0,
+      ne-eqb (c .before .before .count-word .result) 0 (c .before .if3 .left),
+    )
+    (sym (frame-told lastTick (now (a .frame))) ∙ ap (λ (t : FrameTold). t .number) (sym (c .read-frame .ensures)))
+
+returns-4 : tie.Need-returns-4
+returns-4 c = c .number .ensures ∙ sym (told (c .before .before .before .before) ∙ ap (λ (r : FrameRead). toldBy r .number) (c .before .before .why .given .1))
+
+returns-5 : tie.Need-returns-5
+returns-5 c = sym (told (c .before .before) ∙ ap (λ (r : FrameRead). toldBy r .number) (c .enum-told .given .1))
+
+pub deliver-number-spec : {M : Type 1} → statement M
+deliver-number-spec =
+    tie.close
+    (tie.spec
+    returns
+    is-sound-requires
+    returns-2
+    shared-slice-read-n
+    cast-n
+    count-word-requires
+    returns-3
+    read-frame-requires
+    enum-known-why
+    number-requires
+    enum-told
+    returns-4
+    returns-5)

@@ -1,0 +1,141 @@
+-- `face::pebrassola_boot` meets its contract: the tests are those of the definition, a form that is taken keeps the limits, and the stores are the fresh node's.
+-- Assumes nothing.
+use borrow.Author.Needs.{needs}
+use mathlib.Core.Path.{_≡_, sym, ap, _∙_}
+use Prim.Native.Nat.{_+_, _*_}
+use native.Mathlib.Omega.{arith}
+use denote.Ref.{now}
+use lib.ListN.{length}
+use borrow.Author.Tests.{lt-ltb, le-ltb}
+use Rattle.forms.specs.Form.{linesOf, faultsOf, ownOf, formNumber, toldBy}
+use Rattle.forms.specs.declared.form.Form.{Form}
+use Rattle.forms.proofs.Told.{refusal, told-refused, form-length}
+use Rattle.node.specs.Calls.{bootNumber, freshState, booted}
+use Rattle.node.specs.Image.{layout, putState}
+use Rattle.node.specs.Record.{putRecords}
+use Rattle.node.proofs.Taken.{boot-refused, told-form, form-limits}
+use Rattle.node.proofs.face.pebrassola_boot.Statement.{statement}
+use Rattle.node.proofs.face.pebrassola_boot.Tie as tie
+
+read-form-requires : tie.Need-read-form-requires
+read-form-requires c κs = search needs
+
+enum-known-told : tie.Need-enum-known-told
+enum-known-told c = search needs
+
+number-requires : tie.Need-number-requires
+number-requires c κs = search needs
+
+enum-known-told-2 : tie.Need-enum-known-told-2
+enum-known-told-2 c = search needs
+
+cast-n : tie.Need-cast-n
+cast-n c = search needs
+
+-- a form that the reader took has number 0, and what was told are its own fields
+taken : (c : tie.After-struct-known) →
+    let b = now (c .before .before .before .before .before .before .before .before .args .form) in
+    (formNumber b ≡ 0) × (_≡_ {A = Form} (c .before .before .told2 .given .0 .0) (record { lines = linesOf b; faults = faultsOf b; own = ownOf b }))
+taken c = told-form (now (c .before .before .before .before .before .before .before .before .args .form)) (c .before .before .before .before .read-form .result) (c .before .before .told2 .given .0 .0) (c .before .before .before .before .read-form .ensures) (c .before .before .told2 .given .1)
+
+mul-if1 : tie.Need-mul-if1
+mul-if1 c = search needs
+
+add-if1 : tie.Need-add-if1
+add-if1 c = search needs
+
+returns : tie.Need-returns
+unfolding booted bootNumber
+returns c =
+    let a = c .before .before .before .before .before .before .before .before .before .args in
+    let t = taken (c .before) in
+    rw (t .0, lt-ltb (length (now (a .image))) (32 + linesOf (now (a .form)) * 28) (omega (arith, ap (λ (f : Form). f .lines) (t .1))))
+
+returns-2 : tie.Need-returns-2
+unfolding booted bootNumber
+returns-2 c =
+    let a = c .before .before .before .before .before .before .before .before .before .before .args in
+    let t = taken (c .before .before) in
+    rw (
+      t .0,
+      le-ltb (length (now (a .image))) (32 + linesOf (now (a .form)) * 28) (omega (arith, ap (λ (f : Form). f .lines) (t .1))),
+      lt-ltb (length (now (a .out))) 192 (c .if2 .taken),
+    )
+
+new-requires : tie.Need-new-requires
+new-requires c κs = search needs
+
+put-node-requires : tie.Need-put-node-requires
+put-node-requires c κs =
+    let t = taken (c .before .before .before .before) in
+    rw (c .new .ensures, t .1) (omega (arith, form-limits (now (c .before .before .before .before .before .before .before .before .before .before .before .before .args .form)) (t .0)))
+
+put-fresh-rows-requires : tie.Need-put-fresh-rows-requires
+put-fresh-rows-requires c κs =
+    let t = taken (c .before .before .before .before .before .before .before .before) in
+    omega (
+      arith,
+      c .before .before .before .put-node .kept .0,
+      c .before .before .before .before .before .before .before .if1 .left,
+      ap (λ (f : Form). f .lines) (t .1),
+      form-length (now (c .before .before .before .before .before .before .before .before .before .before .before .before .before .before .before .before .args .form)) (t .0),
+    )
+
+put-record-requires : tie.Need-put-record-requires
+put-record-requires c κs = search needs
+
+returns-3 : tie.Need-returns-3
+unfolding booted
+returns-3 c =
+    let a = c .before .before .before .before .before .before .before .before .args in
+    let why = c .before .before .told .given .0 .0 in
+    let refused = told-refused (now (a .form)) why (ap toldBy (sym (c .before .before .told .given .1)) ∙ c .before .before .before .before .read-form .ensures) in
+    rw (boot-refused layout (now (a .form)) (length (now (a .image))) (length (now (a .out))) why refused, refusal why, c .number .ensures)
+
+same-length : tie.Need-same-length
+same-length c = search needs
+
+same-length-2 : tie.Need-same-length-2
+same-length-2 c = search needs
+
+returns-4 : tie.Need-returns-4
+unfolding booted bootNumber freshState putState putRecords
+returns-4 c =
+    let a = c .before .before .before .before .before .before .before .before .before .before .before .before .before .before .before .before .before .before .before .before .before .before .before .args in
+    let t = taken (c .before .before .before .before .before .before .before .before .before .before .before .before .before .before .before) in
+    rw (
+      t .0,
+      le-ltb (length (now (a .image))) (32 + linesOf (now (a .form)) * 28) (omega (
+        arith,
+        c .before .before .before .before .before .before .before .before .before .before .before .before .before .before .if1 .left,
+        ap (λ (f : Form). f .lines) (t .1),
+      )),
+      le-ltb (length (now (a .out))) 192 (c .before .before .before .before .before .before .before .before .before .before .before .before .before .if2 .left),
+      c .before .before .put-record .ensures,
+      c .before .before .before .before .before .before .put-fresh-rows .ensures,
+      c .before .before .before .before .before .before .before .before .before .before .put-node .ensures,
+      c .before .before .before .before .before .before .before .before .before .before .before .new .ensures,
+      t .1,
+    )
+
+pub pebrassola-boot-spec : {M : Type 1} → statement M
+pebrassola-boot-spec =
+    tie.close
+    (tie.spec
+    read-form-requires
+    enum-known-told
+    number-requires
+    enum-known-told-2
+    cast-n
+    mul-if1
+    add-if1
+    returns
+    returns-2
+    new-requires
+    put-node-requires
+    put-fresh-rows-requires
+    put-record-requires
+    returns-3
+    same-length
+    same-length-2
+    returns-4)

@@ -1,0 +1,130 @@
+-- `image::is_sound_state` meets its contract: each test that fails makes one part of a sound state false, and past them the last part decides.
+-- Assumes nothing.
+use borrow.Author.Needs.{needs}
+use mathlib.Core.Path.{_≡_, ap, _∙_}
+use mathlib.Core.Bool.{_&&_}
+use mathlib.Core.List.{map}
+use native.Mathlib.Omega.{arith}
+use denote.Ref.{now}
+use borrow.Author.Tests.{le-leb, lt-leb, not-true, not-false}
+use Rattle.forms.specs.Number.{verdictOf}
+use Rattle.forms.specs.Roster.{rosterNumber}
+use Rattle.forms.proofs.Told.{refusal}
+use Rattle.evidence.specs.Rows.{Row, rowsAt, properRows}
+use Rattle.evidence.proofs.Layouts.{serials-of-rows}
+use Rattle.node.specs.Describe.{window, lastTick}
+use Rattle.node.specs.Image.{atRest, soundState}
+use Rattle.node.specs.Rules.{firstRule}
+use Rattle.node.proofs.Sound.{rows-limits}
+use Rattle.node.proofs.image.is_sound_state.Statement.{statement}
+use Rattle.node.proofs.image.is_sound_state.Tie as tie
+
+cast-n : tie.Need-cast-n
+cast-n c = search needs
+
+judge-requires : tie.Need-judge-requires
+judge-requires c κs = search needs
+
+enum-told : tie.Need-enum-told
+enum-told c = search needs
+
+-- the roster's number is the verdict's
+judged : (c : tie.After-judge) →
+    let a = c .before .before .before .args in
+    rosterNumber (a .node .faults) (a .node .own) (map (λ (row : Row). row .serial) (rowsAt 8 (a .node .lines) (now (a .b)) 32)) ≡ verdictOf (c .judge .result)
+judged c =
+    let a = c .before .before .before .args in
+    rw (serials-of-rows 8 (a .node .lines) (now (a .b)) 32, ← c .judge .ensures)
+
+returns : tie.Need-returns
+unfolding soundState
+returns c = rw (judged (c .before .before), c .enum-told .given .1, refusal (c .enum-told .given .0 .0))
+
+enum-told-2 : tie.Need-enum-told-2
+enum-told-2 c = search needs
+
+-- past the refusal the roster is in order
+roster : (c : tie.After-enum-told2) →
+    let a = c .before .before .before .before .before .args in
+    rosterNumber (a .node .faults) (a .node .own) (map (λ (row : Row). row .serial) (rowsAt 8 (a .node .lines) (now (a .b)) 32)) ≡ 0
+roster c = judged (c .before .before) ∙ ap verdictOf (c .enum-told2 .given .1)
+
+returns-2 : tie.Need-returns-2
+unfolding soundState
+returns-2 c =
+    let a = c .before .before .before .before .before .before .before .args in
+    rw (roster (c .before .before), lt-leb (a .node .mode) 1 (omega arith))
+
+returns-3 : tie.Need-returns-3
+unfolding soundState
+returns-3 c =
+    let a = c .before .before .before .before .before .before .before .before .before .args in
+    rw (roster (c .before .before .before .before), le-leb (a .node .mode) 1 (omega arith), lt-leb (a .node .sent) (a .node .tick) (omega arith))
+
+returns-4 : tie.Need-returns-4
+unfolding soundState
+returns-4 c =
+    let a = c .before .before .before .before .before .before .before .before .before .before .before .args in
+    rw (
+      roster (c .before .before .before .before .before .before),
+      le-leb (a .node .mode) 1 (omega arith),
+      le-leb (a .node .sent) (a .node .tick) (omega arith),
+      lt-leb (a .node .tick) lastTick (omega arith),
+    )
+
+-- past the tests of the node only the rows and the rules are left
+rows : (c : tie.Else3) →
+    let a = c .before .before .before .before .before .before .before .before .before .before .before .args in
+    let held = rowsAt 8 (a .node .lines) (now (a .b)) 32 in
+    soundState window lastTick (record { node = a .node; rows = held }) ≡ (properRows window lastTick held && atRest (firstRule window lastTick held (a .node)))
+unfolding soundState
+rows c =
+    let a = c .before .before .before .before .before .before .before .before .before .before .before .args in
+    rw (
+      roster (c .before .before .before .before .before .before),
+      le-leb (a .node .mode) 1 (omega arith),
+      le-leb (a .node .sent) (a .node .tick) (omega arith),
+      le-leb (a .node .tick) lastTick (omega arith),
+    )
+
+are-proper-requires : tie.Need-are-proper-requires
+are-proper-requires c κs = search needs
+
+returns-5 : tie.Need-returns-5
+returns-5 c = rw (rows (c .before .before), ← c .before .are-proper .ensures, not-true (c .before .are-proper .result) (c .if4 .taken))
+
+rule-requires : tie.Need-rule-requires
+rule-requires c κs =
+    let a = c .before .before .before .before .before .before .before .before .before .before .before .before .before .args in
+    record { inside = c .before .before .before .before .before .before .before .before .before .before .before .before .before .pre; fewer = omega (arith, rows-limits (a .node .faults) (a .node .own) 8 (a .node .lines) (now (a .b)) 32 (roster (c .before .before .before .before .before .before .before .before))) }
+
+is-at-rest-requires : tie.Need-is-at-rest-requires
+is-at-rest-requires c κs = search needs
+
+returns-6 : tie.Need-returns-6
+returns-6 c =
+    rw (
+      rows (c .before .before .before .before),
+      ← c .before .before .before .are-proper .ensures,
+      not-false (c .before .before .before .are-proper .result) (c .before .before .if4 .left),
+      ← c .before .rule .ensures,
+    )
+    (c .is-at-rest .ensures)
+
+pub is-sound-state-spec : {M : Type 1} → statement M
+is-sound-state-spec =
+    tie.close
+    (tie.spec
+    cast-n
+    judge-requires
+    enum-told
+    returns
+    enum-told-2
+    returns-2
+    returns-3
+    returns-4
+    are-proper-requires
+    returns-5
+    rule-requires
+    is-at-rest-requires
+    returns-6)

@@ -1,0 +1,79 @@
+-- `image::put_fixed` meets its contract: its six stores, one after the other, are the definition's.
+-- Assumes nothing.
+use borrow.Author.Needs.{needs}
+use mathlib.Core.Path.{_≡_}
+use native.Mathlib.Omega.{arith}
+use denote.Ref.{now}
+use lib.Dec.{lit<}
+use lib.ListN.{length, length-set}
+use Rattle.node.specs.Image.{putFixed}
+use Rattle.node.proofs.Headers.{put-byte}
+use Rattle.node.proofs.image.put_fixed.Statement.{statement}
+use Rattle.node.proofs.image.put_fixed.Tie as tie
+
+slice-write-b : tie.Need-slice-write-b
+slice-write-b c = search needs
+
+put-half-requires : tie.Need-put-half-requires
+put-half-requires c κs = simp length-set (omega arith)
+
+-- no store changes the length
+half-length : (c : tie.After-put-half) → length (c .put-half .last .0) ≡ length (now (c .before .before .before .args .b))
+half-length c = simp length-set at (c .put-half .kept .0)
+
+half2-length : (c : tie.After-put-half2) → length (c .put-half2 .last .0) ≡ length (now (c .before .before .before .before .before .before .before .args .b))
+half2-length c = omega (arith, c .put-half2 .kept .0, half-length (c .before .before .before .before))
+
+word-length : (c : tie.After-put-word) → length (c .put-word .last .0) ≡ length (now (c .before .before .before .before .before .before .before .before .before .before .before .args .b))
+word-length c = omega (arith, c .put-word .kept .0, half2-length (c .before .before .before .before))
+
+word2-length : (c : tie.After-put-word2) → length (c .put-word2 .last .0) ≡ length (now (c .before .before .before .before .before .before .before .before .before .before .before .before .before .before .before .args .b))
+word2-length c = omega (arith, c .put-word2 .kept .0, word-length (c .before .before .before .before))
+
+mul-put-half : tie.Need-mul-put-half
+mul-put-half c = search needs
+
+add-put-half : tie.Need-add-put-half
+add-put-half c = search needs
+
+put-half-requires-2 : tie.Need-put-half-requires-2
+put-half-requires-2 c κs = omega (arith, half-length (c .before .before .before))
+
+put-word-requires : tie.Need-put-word-requires
+put-word-requires c κs = omega (arith, half2-length (c .before .before .before))
+
+put-word-requires-2 : tie.Need-put-word-requires-2
+put-word-requires-2 c κs = omega (arith, word-length (c .before .before .before))
+
+put-word-requires-3 : tie.Need-put-word-requires-3
+put-word-requires-3 c κs = omega (arith, word2-length (c .before .before .before))
+
+same-length : tie.Need-same-length
+same-length c = omega (arith, c .before .before .put-word3 .kept .0, word2-length (c .before .before .before .before .before .before))
+
+returns : tie.Need-returns
+unfolding putFixed
+returns c =
+    rw (
+      put-byte (now (c .before .before .before .before .before .before .before .before .before .before .before .before .before .before .before .before .before .before .before .before .before .args .b)) 3 0 (lit< tt),
+      c .before .before .put-word3 .ensures,
+      c .before .before .before .before .before .before .put-word2 .ensures,
+      c .before .before .before .before .before .before .before .before .before .before .put-word .ensures,
+      c .before .before .before .before .before .before .before .before .before .before .before .before .before .before .put-half2 .ensures,
+      c .before .before .before .before .before .before .before .before .before .before .before .before .before .before .before .before .before .before .put-half .ensures,
+    )
+
+pub put-fixed-spec : {M : Type 1} → statement M
+put-fixed-spec =
+    tie.close
+    (tie.spec
+    slice-write-b
+    put-half-requires
+    mul-put-half
+    add-put-half
+    put-half-requires-2
+    put-word-requires
+    put-word-requires-2
+    put-word-requires-3
+    same-length
+    returns)

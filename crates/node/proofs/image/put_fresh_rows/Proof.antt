@@ -1,0 +1,136 @@
+-- `image::put_fresh_rows` meets its contract: to store the rows from line k on into what is there is to store them all into what was.
+-- Assumes nothing.
+use mathlib.Core.Path.{_≡_, sym, _∙_}
+use mathlib.Core.List.{List}
+use Prim.Native.Nat.{ℕ, _+_, _*_, _-_, _≤_, _<_}
+use native.Mathlib.Nat.{sub-zero}
+use native.Mathlib.Omega.{arith}
+use denote.Ref.{now}
+use lib.ListN.{length}
+use Rattle.forms.specs.Field.{field, putField, words}
+use Rattle.forms.proofs.Rosters.{words-step, words-end}
+use Rattle.evidence.specs.Ticks.{empty}
+use Rattle.evidence.specs.Rows.{putSet, putRow, putRows}
+use Rattle.node.specs.Describe.{freshRows}
+use Rattle.node.proofs.image.put_fresh_rows.Statement.{statement}
+use Rattle.node.proofs.image.put_fresh_rows.Tie as tie
+
+-- the rows from line k on, in their places
+abbrev rest : List ℕ → List ℕ → ℕ → ℕ → List ℕ
+rest b form n k = putRows 8 b (32 + k * 28) (freshRows (words (n - k) 4 form (8 + k * 4)))
+
+-- one turn: with the row on line k stored, the lines behind it are what is left to store
+store-step : (b form : List ℕ) (n k : ℕ) → k < n → rest (putSet 8 (putSet 8 (putField 4 b (32 + k * 28) (field 4 form (8 + k * 4))) (32 + k * 28 + 4) empty) (32 + k * 28 + 16) empty) form n (k + 1) ≡ rest b form n k
+unfolding putRow putRows freshRows
+store-step b form n k p =
+    let at : 32 + (k + 1) * 28 ≡ 32 + k * 28 + 28 = omega arith in
+    let left : n - (k + 1) ≡ n - k - 1 = omega arith in
+    let line : 8 + (k + 1) * 4 ≡ 8 + k * 4 + 4 = omega arith in
+    rw (words-step (n - k) 4 form (8 + k * 4) (omega arith), at, left, line)
+
+-- past the last line nothing is left to store
+store-end : (b form : List ℕ) (n k : ℕ) → n ≤ k → rest b form n k ≡ b
+unfolding putRows freshRows
+store-end b form n k p = rw (words-end (n - k) 4 form (8 + k * 4) (omega arith))
+
+abbrev Inv-loop : tie.InvT-loop
+Inv-loop b₀ form n k₀ b k = (length b ≡ length b₀) × (k ≤ n) × (rest b form n k ≡ putRows 8 b₀ 32 (freshRows (words n 4 form 8)))
+
+abbrev μ-loop : tie.MeasureT-loop
+μ-loop b₀ form n k₀ b k = n - k
+
+loop-holds : tie.Need-loop-holds Inv-loop μ-loop
+loop-holds c = (omega arith, omega arith, simp sub-zero)
+
+mul-at : tie.Need-mul-at Inv-loop μ-loop
+mul-at c = omega arith
+
+add-at : tie.Need-add-at Inv-loop μ-loop
+add-at c = omega arith
+
+mul-word : tie.Need-mul-word Inv-loop μ-loop
+mul-word c = omega arith
+
+add-word : tie.Need-add-word Inv-loop μ-loop
+add-word c = omega arith
+
+word-requires : tie.Need-word-requires Inv-loop μ-loop
+word-requires c κs = omega arith
+
+put-word-requires : tie.Need-put-word-requires Inv-loop μ-loop
+put-word-requires c κs = omega arith
+
+add-store-set : tie.Need-add-store-set Inv-loop μ-loop
+add-store-set c = omega arith
+
+none-requires : tie.Need-none-requires Inv-loop μ-loop
+none-requires c κs = omega arith
+
+store-set-requires : tie.Need-store-set-requires Inv-loop μ-loop
+store-set-requires c κs = omega arith
+
+add-store-set-2 : tie.Need-add-store-set-2 Inv-loop μ-loop
+add-store-set-2 c = omega arith
+
+none-requires-2 : tie.Need-none-requires-2 Inv-loop μ-loop
+none-requires-2 c κs = omega arith
+
+store-set-requires-2 : tie.Need-store-set-requires-2 Inv-loop μ-loop
+store-set-requires-2 c κs = omega arith
+
+add-k : tie.Need-add-k Inv-loop μ-loop
+add-k c = omega arith
+
+loop-less : tie.Need-loop-less Inv-loop μ-loop
+loop-less c = omega arith
+
+loop-again : tie.Need-loop-again Inv-loop μ-loop
+loop-again c =
+    let a = c .before .before .before .before .before .before .before .before .before .before .before .before .before .before .before .before .before .before .before .args in
+    let l = c .before .before .before .before .before .before .before .before .before .before .before .before .before .before .before .before .loop in (
+      omega arith,
+      omega arith,
+      rw (
+        c .before .before .store-set2 .ensures,
+        c .before .before .before .none2 .ensures,
+        c .before .before .before .before .before .before .before .store-set .ensures,
+        c .before .before .before .before .before .before .before .before .none .ensures,
+        c .before .before .before .before .before .before .before .before .before .before .before .before .put-word .ensures,
+        c .before .before .before .before .before .before .before .before .before .before .before .before .before .word .ensures,
+      )
+          (store-step (l .b) (now (a .form)) (a .n) (l .k) (c .before .before .before .before .before .before .before .before .before .before .before .before .before .before .before .loop-test .taken) ∙ l .inv .2),
+    )
+
+same-length : tie.Need-same-length Inv-loop μ-loop
+same-length c = omega arith
+
+returns : tie.Need-returns Inv-loop μ-loop
+returns c =
+    let a = c .before .before .before .before .args in
+    let l = c .before .loop in
+    sym (store-end (l .b) (now (a .form)) (a .n) (l .k) (c .loop-test .left)) ∙ l .inv .2
+
+pub put-fresh-rows-spec : {M : Type 1} → statement M
+put-fresh-rows-spec =
+    tie.close
+    (tie.spec
+    Inv-loop
+    μ-loop
+    loop-holds
+    mul-at
+    add-at
+    mul-word
+    add-word
+    word-requires
+    put-word-requires
+    add-store-set
+    none-requires
+    store-set-requires
+    add-store-set-2
+    none-requires-2
+    store-set-requires-2
+    add-k
+    loop-less
+    loop-again
+    same-length
+    returns)

@@ -1,0 +1,66 @@
+-- `image::put_node` meets its contract: n and f are bytes, and the stores, one after the other, are the definition's.
+-- Assumes nothing.
+use borrow.Author.Needs.{needs}
+use mathlib.Core.Path.{_≡_}
+use native.Mathlib.Omega.{arith}
+use denote.Ref.{now}
+use lib.ListN.{length, set, length-set}
+use Rattle.node.specs.Image.{layout, putFixed, putNode}
+use Rattle.node.proofs.Headers.{put-byte}
+use Rattle.node.proofs.image.put_node.Statement.{statement}
+use Rattle.node.proofs.image.put_node.Tie as tie
+
+put-fixed-requires : tie.Need-put-fixed-requires
+put-fixed-requires c κs = search needs
+
+cast-b : tie.Need-cast-b
+cast-b c = search needs
+
+slice-write-b : tie.Need-slice-write-b
+slice-write-b c = search needs
+
+cast-b-2 : tie.Need-cast-b-2
+cast-b-2 c = search needs
+
+slice-write-b-2 : tie.Need-slice-write-b-2
+slice-write-b-2 c = simp length-set (omega arith)
+
+put-word-requires : tie.Need-put-word-requires
+put-word-requires c κs = simp length-set (omega arith)
+
+-- no store changes the length
+word-length : (c : tie.After-put-word) → length (c .put-word .last .0) ≡ length (now (c .before .before .before .before .before .before .before .before .before .args .b))
+word-length c = omega (arith, simp length-set at (c .put-word .kept .0), c .before .before .before .before .before .before .put-fixed .kept .0)
+
+put-clock-requires : tie.Need-put-clock-requires
+put-clock-requires c κs = omega (arith, word-length (c .before .before .before))
+
+same-length : tie.Need-same-length
+same-length c = omega (arith, c .before .before .put-clock .kept .0, word-length (c .before .before .before .before .before .before))
+
+returns : tie.Need-returns
+unfolding putNode
+returns c =
+    let a = c .before .before .before .before .before .before .before .before .before .before .before .before .before .before .before .args in
+    let fixed = putFixed layout (now (a .b)) (a .node .lines) in
+    rw (
+      put-byte fixed 0 (a .node .lines) (omega arith),
+      put-byte (set fixed 0 (a .node .lines)) 1 (a .node .faults) (omega arith),
+      c .before .before .put-clock .ensures,
+      c .before .before .before .before .before .before .put-word .ensures,
+      c .before .before .before .before .before .before .before .before .before .before .before .before .put-fixed .ensures,
+    )
+
+pub put-node-spec : {M : Type 1} → statement M
+put-node-spec =
+    tie.close
+    (tie.spec
+    put-fixed-requires
+    cast-b
+    slice-write-b
+    cast-b-2
+    slice-write-b-2
+    put-word-requires
+    put-clock-requires
+    same-length
+    returns)

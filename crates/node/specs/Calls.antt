@@ -1,0 +1,83 @@
+-- The three calls of truck firmware (01, "Numbers given back"): for every form, image, port, frame and output the number, the
+-- records, and every byte of image and output at exit. A refusal reports nothing and changes no byte.
+use Prim.Native.Nat.{ℕ}
+use mathlib.Core.List.{List}
+use mathlib.Core.Bool.{cond}
+use lib.ListN.{length, getD}
+use lib.Dec.{ltb, eqb}
+use Rattle.forms.specs.Field.{field, words}
+use Rattle.forms.specs.Form.{linesOf, faultsOf, ownOf, serialsOf, formNumber}
+use Rattle.forms.specs.Frame.{frameNumber}
+use Rattle.forms.specs.Number.{orElse}
+use Rattle.forms.specs.Roster.{count}
+use Rattle.evidence.specs.Rows.{rowSize, putRows}
+use Rattle.node.specs.Delivery.{State, Delivered, delivered}
+use Rattle.node.specs.Describe.{room, freshNode, freshRows, bootRecords}
+use Rattle.node.specs.Image.{Layout, imageSize, stateOf, putClock, putState, soundImage}
+use Rattle.node.specs.Record.{putRecords}
+
+-- number, count of records, and every byte of image and output at exit
+pub record Outcome : Type 0 where
+  pub number : ℕ
+  pub records : ℕ
+  pub image : List ℕ
+  pub out : List ℕ
+
+-- the outcome that a number decides: of 0 what is done, of any other nothing
+abbrev pub outcome : ℕ → List ℕ → List ℕ → Outcome → Outcome
+outcome number image out done = cond (eqb number 0) done (record { number = number; records = 0; image = image; out = out })
+
+-- ---- boot: 1 to 5, then 6, then 7
+
+unfoldable pub bootNumber : Layout → List ℕ → ℕ → ℕ → ℕ
+bootNumber L form imageLength outLength =
+    orElse (formNumber form) (cond (ltb imageLength (imageSize L (linesOf form))) 6 (cond (ltb outLength room) 7 0))
+
+-- the node of a form that is taken
+unfoldable pub freshState : List ℕ → State
+freshState form = record { node = freshNode (linesOf form) (faultsOf form) (ownOf form); rows = freshRows (serialsOf form) }
+
+unfoldable pub booted : Layout → List ℕ → List ℕ → List ℕ → Outcome
+booted L form image out =
+    outcome (bootNumber L form (length image) (length out)) image out
+    (record { number = 0; records = 1; image = putState L image (freshState form); out = putRecords out 0 bootRecords })
+
+-- ---- deliver: 7, 8, 9, then 10 and 11 of the frame
+
+unfoldable pub deliverNumber : Layout → ℕ → List ℕ → ℕ → List ℕ → ℕ → ℕ
+deliverNumber L last image port frame outLength =
+    cond (ltb outLength room) 7
+    (cond (soundImage L last image)
+    (cond (eqb (count port (words (getD image 0 0) (rowSize (L .masks)) image 32)) 0) 9 (frameNumber last frame)) 8)
+
+-- the delivery of a frame that is taken
+unfoldable pub deliveryOf : Layout → ℕ → List ℕ → ℕ → List ℕ → Delivered
+deliveryOf L last image port frame = delivered (L .window) last (stateOf L image) port (getD frame 0 0) (field 4 frame 4)
+
+-- it changes only k, mode, last echo and the port's row
+unfoldable pub imageAfter : Layout → List ℕ → Delivered → List ℕ
+imageAfter L image d = putClock (putRows (L .masks) image 32 (d .state .rows)) (d .state .node)
+
+unfoldable pub deliverOutcome : Layout → ℕ → List ℕ → ℕ → List ℕ → List ℕ → Outcome
+deliverOutcome L last image port frame out =
+    outcome (deliverNumber L last image port frame (length out)) image out
+    (record {
+      number = 0;
+      records = length (deliveryOf L last image port frame .records);
+      image = imageAfter L image (deliveryOf L last image port frame);
+      out = putRecords out 0 (deliveryOf L last image port frame .records);
+    })
+
+-- ---- read: 8, then 12 where the node is passive; the clock of an active node is k
+
+pub record Reading : Type 0 where
+  pub number : ℕ
+  pub clock : ℕ
+
+unfoldable pub readNumber : Layout → ℕ → List ℕ → ℕ
+readNumber L last image = cond (soundImage L last image) (cond (eqb (getD image 2 0) 0) 12 0) 8
+
+unfoldable pub reading : Layout → ℕ → List ℕ → Reading
+reading L last image =
+    cond (eqb (readNumber L last image) 0) (record { number = 0; clock = field 4 image 8 })
+    (record { number = readNumber L last image; clock = 0 })

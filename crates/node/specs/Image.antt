@@ -1,0 +1,88 @@
+-- The node image (01, "Layouts" and "One delivery"): bytes to node and back, and when an image is sound. The layout is a small
+-- record, so that another window with wider masks is another value of it and not another definition.
+use Prim.Native.Nat.{ℕ, _+_, _*_}
+use mathlib.Core.List.{List, map}
+use mathlib.Core.Bool.{Bool, true, false, cond, not, _&&_, _||_}
+use lib.ListN.{length, getD}
+use lib.Dec.{ltb, leb, eqb}
+use Rattle.forms.specs.Field.{field, putField, words}
+use Rattle.forms.specs.Roster.{rosterNumber}
+use Rattle.evidence.specs.Rows.{Row, rowSize, rowsAt, putRows, properRows}
+use Rattle.node.specs.Rules.{firstRule}
+use Rattle.node.specs.Delivery.{State}
+use Rattle.node.specs.Describe.{window}
+use Rattle.node.specs.declared.node.Node.{Node}
+use Rattle.node.specs.declared.node.Rule.{Rule}
+use Rattle.node.specs.declared.node.Rule.the-variants.{Rest, Echo, Tick, Jump, Wake}
+
+-- the window, the bytes of a mask, and header byte 3
+pub record Layout : Type 0 where
+  pub window : ℕ
+  pub masks : ℕ
+  pub mark : ℕ
+
+abbrev pub layout : Layout
+layout = record { window = window; masks = 8; mark = 0 }
+
+abbrev pub imageSize : Layout → ℕ → ℕ
+imageSize L n = 32 + n * rowSize (L .masks)
+
+-- ---- bytes to node
+
+-- Header: 0 n; 1 f; 2 mode; 4..7 own serial; 8..11 k; 12..15 last echo sent
+unfoldable pub nodeOf : List ℕ → Node
+nodeOf b =
+    record { lines = getD b 0 0; faults = getD b 1 0; own = field 4 b 4; mode = getD b 2 0; tick = field 4 b 8; sent = field 4 b 12 }
+
+-- the rows, from place 32 on
+abbrev pub rowsOf : Layout → List ℕ → List Row
+rowsOf L b = rowsAt (L .masks) (getD b 0 0) b 32
+
+unfoldable pub stateOf : Layout → List ℕ → State
+stateOf L b = record { node = nodeOf b; rows = rowsOf L b }
+
+-- ---- node to bytes
+
+-- what a delivery changes in the header
+unfoldable pub putClock : List ℕ → Node → List ℕ
+putClock b p = putField 4 (putField 4 (putField 1 b 2 (p .mode)) 8 (p .tick)) 12 (p .sent)
+
+-- byte 3; 16..17 offset of the rows (32); 18..19 whole size; 20..31 zero
+unfoldable pub putFixed : Layout → List ℕ → ℕ → List ℕ
+putFixed L b n =
+    putField 4 (putField 4 (putField 4 (putField 2 (putField 2 (putField 1 b 3 (L .mark)) 16 32) 18 (imageSize L n)) 20 0) 24 0) 28 0
+
+unfoldable pub putNode : Layout → List ℕ → Node → List ℕ
+putNode L b p =
+    putClock (putField 4 (putField 1 (putField 1 (putFixed L b (p .lines)) 0 (p .lines)) 1 (p .faults)) 4 (p .own)) p
+
+-- a whole image over the front of a buffer; bytes behind its size stay
+unfoldable pub putState : Layout → List ℕ → State → List ℕ
+putState L b s = putRows (L .masks) (putNode L b (s .node)) 32 (s .rows)
+
+-- ---- a sound image
+
+-- the fixed header values
+unfoldable pub fixedHeader : Layout → List ℕ → Bool
+fixedHeader L b =
+    eqb (getD b 3 0) (L .mark) && (eqb (field 2 b 16) 32 && (eqb (field 2 b 18) (imageSize L (getD b 0 0))
+    && (eqb (field 4 b 20) 0 && (eqb (field 4 b 24) 0 && eqb (field 4 b 28) 0))))
+
+abbrev pub atRest : Rule → Bool
+atRest Rest = true
+atRest Echo = false
+atRest Tick = false
+atRest (Jump l) = false
+atRest (Wake x) = false
+
+-- a roster that 2 to 5 would accept, mode 0 or 1, last echo ≤ k ≤ last tick, proper sets, and no rule that can fire
+unfoldable pub soundState : ℕ → ℕ → State → Bool
+soundState w last s =
+    eqb (rosterNumber (s .node .faults) (s .node .own) (map (λ row. row .serial) (s .rows))) 0
+    && (leb (s .node .mode) 1 && (leb (s .node .sent) (s .node .tick) && (leb (s .node .tick) last
+    && (properRows w last (s .rows) && atRest (firstRule w last (s .rows) (s .node))))))
+
+-- number 8: buffer shorter than 32 or than its stated size, or image not sound
+unfoldable pub soundImage : Layout → ℕ → List ℕ → Bool
+soundImage L last b =
+    not (ltb (length b) 32) && (not (ltb (length b) (field 2 b 18)) && (fixedHeader L b && soundState (L .window) last (stateOf L b)))

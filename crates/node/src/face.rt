@@ -1,0 +1,147 @@
+// The face to truck firmware in C: boot, deliver and read on byte buffers. Nothing has to be checked beforehand but that the
+// buffers are real memory of the stated length and do not overlap. A refusal gives its number and changes no byte.
+use crate::image::is_sound;
+use crate::image::put_clock;
+use crate::image::put_fresh_rows;
+use crate::image::put_node;
+use crate::image::read_node;
+use crate::node::Node;
+use crate::record::put_record;
+use forms::field::word;
+use forms::form::Form;
+use forms::form::FormRead;
+use forms::form::read_form;
+use forms::frame::Frame;
+use forms::frame::FrameRead;
+use forms::frame::read_frame;
+use forms::roster::count_word;
+ghost use mathlib.Core.Path.{_≡_};
+ghost use Prim.Native.Nat.{_≤_};
+ghost use lib.ListN.{length};
+ghost use Rattle.node.specs.Calls.{booted, deliverNumber, deliverOutcome, readNumber, reading};
+ghost use Rattle.node.specs.Describe.{lastTick};
+ghost use Rattle.node.specs.Faces.{outcomeBy, readingBy};
+ghost use Rattle.node.specs.Image.{layout};
+
+// Bytes of output that boot and deliver ask: 16 records.
+pub const ROOM: usize = 192;
+
+// The number of a call, and the records that stand in the output.
+#[repr(C)]
+pub struct Answer {
+    pub number: u32,
+    pub records: u32,
+}
+
+// The number of a call, and the clock.
+#[repr(C)]
+pub struct Reading {
+    pub number: u32,
+    pub clock: u32,
+}
+
+// Makes a fresh node of a form.
+#[no_mangle]
+pub extern "C" fn pebrassola_boot(form: &[u8], image: &mut [u8], out: &mut [u8]) -> Answer
+    ensures { λ r. ⌜ outcomeBy r (now (image .exit)) (now (out .exit)) ≡ booted layout (now (form .entry)) (now (image .entry)) (now (out .entry)) ⌝ }
+{
+    let told = read_form(form);
+    match told {
+        FormRead::Refused(why) => Answer {
+            number: why.number(),
+            records: 0,
+        },
+        FormRead::Taken(roster) => {
+            let n = roster.lines as usize;
+            if image.len() < 32 + n * 28 {
+                return Answer {
+                    number: 6,
+                    records: 0,
+                };
+            }
+            if out.len() < ROOM {
+                return Answer {
+                    number: 7,
+                    records: 0,
+                };
+            }
+            put_node(image, Node::new(roster.lines, roster.faults, roster.own));
+            put_fresh_rows(image, form, n);
+            put_record(out, 0, 0, 2, 0);
+            Answer {
+                number: 0,
+                records: 1,
+            }
+        }
+    }
+}
+
+// The number of a delivery: 7 to 11, or 0.
+fn deliver_number(image: &[u8], port: u32, frame: &[u8], room: usize) -> u32
+    ensures { λ r. ⌜ r ≡ deliverNumber layout lastTick (now (image .entry)) port (now (frame .entry)) room ⌝ }
+{
+    if room < ROOM {
+        return 7;
+    }
+    if !is_sound(image) {
+        return 8;
+    }
+    let n = image[0] as usize;
+    if count_word(image, 32, 28, n, port) == 0 {
+        return 9;
+    }
+    match read_frame(frame, Node::LAST_TICK) {
+        FrameRead::Refused(why) => why.number(),
+        FrameRead::Taken(_) => 0,
+    }
+}
+
+// Takes one frame that the wiring delivered from a port.
+#[no_mangle]
+pub extern "C" fn pebrassola_deliver(
+    image: &mut [u8],
+    port: u32,
+    frame: &[u8],
+    out: &mut [u8],
+) -> Answer
+    ensures { λ r. ⌜ outcomeBy r (now (image .exit)) (now (out .exit)) ≡ deliverOutcome layout lastTick (now (image .entry)) port (now (frame .entry)) (now (out .entry)) ⌝ }
+{
+    let room = out.len();
+    let number = deliver_number(image, port, frame, room);
+    if number != 0 {
+        return Answer { number, records: 0 };
+    }
+    let taken = Frame {
+        kind: frame[0] as u32,
+        tick: word(frame, 4),
+    };
+    let next = read_node(image).deliver(image, 32, port, taken, out);
+    put_clock(image, next.node);
+    Answer {
+        number: 0,
+        records: next.records as u32,
+    }
+}
+
+// The clock of an active node.
+#[no_mangle]
+pub extern "C" fn pebrassola_read(image: &[u8]) -> Reading
+    ensures { λ r. ⌜ readingBy r ≡ reading layout lastTick (now (image .entry)) ⌝ }
+{
+    if !is_sound(image) {
+        return Reading {
+            number: 8,
+            clock: 0,
+        };
+    }
+    if image[2] == 0 {
+        return Reading {
+            number: 12,
+            clock: 0,
+        };
+    }
+    Reading {
+        number: 0,
+        clock: word(image, 8),
+    }
+}

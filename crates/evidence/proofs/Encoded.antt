@@ -11,10 +11,10 @@ use lib.ListN.{length, getD}
 use lib.Dec.{eqb, lit<}
 use lib.Pow.{pow-mono}
 use Rattle.forms.specs.Field.{field, putField, Bytes}
-use Rattle.forms.proofs.Fields.{field-same, field-lt, field-put, field-put-other, length-put, getD-put-other}
+use Rattle.forms.proofs.Fields.{field-same, field-lt, field-put, field-put-other, length-put, bytes-put, getD-put-other}
 use Rattle.evidence.specs.Ticks.{Held, insert, insertAll, run, added, add, raised, marked}
 use Rattle.evidence.specs.Rows.{Row, rowSize, setAt, rowAt, rowsAt, putSet, putRow, putRows, creditRow, creditOf, credit}
-use Rattle.evidence.proofs.Layouts.{length-putSet, getD-putSet-other, row-same, length-rows}
+use Rattle.evidence.proofs.Layouts.{length-putSet, bytes-putSet, getD-putSet-other, row-same, length-rows}
 use Rattle.evidence.proofs.Masks.{raised-lt, marked-lt}
 use Rattle.evidence.proofs.Members.{Insertion, insertion, insert-near, insert-far, insert-in, insert-late}
 
@@ -85,6 +85,14 @@ pub length-putRows : (mb : ℕ) (b : List ℕ) (i : ℕ) (rs : List Row) → len
 unfolding putRows
 length-putRows mb b i [] = refl
 length-putRows mb b i (r ∷ rs) = length-putRows mb (putRow mb b i r) (i + rowSize mb) rs ∙ length-putRow mb b i r
+
+pub bytes-putRows : (mb : ℕ) (b : List ℕ) (i : ℕ) (rs : List Row) → Bytes b → Bytes (putRows mb b i rs)
+unfolding putRows putRow
+bytes-putRows mb b i [] h = h
+bytes-putRows mb b i (r ∷ rs) h =
+    bytes-putRows mb (putSet mb (putSet mb (putField 4 b i (r .serial)) (i + 4) (r .echo)) (i + (8 + mb)) (r .init)) (i + rowSize mb) rs
+    (bytes-putSet mb (putSet mb (putField 4 b i (r .serial)) (i + 4) (r .echo)) (i + (8 + mb)) (r .init)
+    (bytes-putSet mb (putField 4 b i (r .serial)) (i + 4) (r .echo) (bytes-put 4 b i (r .serial) h)))
 
 pub getD-putRow-other : (mb : ℕ) (b : List ℕ) (i : ℕ) (r : Row) (j : ℕ) → ((k : ℕ) → k < rowSize mb → j ≡ i + k → ⊥) → getD (putRow mb b i r) j 0 ≡ getD b j 0
 unfolding putRow
@@ -177,7 +185,7 @@ module _ (mb m w : ℕ) (bits : 256 ^ mb ≡ 2 ^ m) (wide : 0 < w) (narrow : w �
   credit-fits serial kind j [] p f = tt
   credit-fits serial kind j (r ∷ rs) p f = (credit-row-fits serial kind j r p (f .0), credit-fits serial kind j rs p (f .1))
 
-  length-credit : (serial kind j : ℕ) (rs : List Row) → length (credit w serial kind j rs) ≡ length rs
+  pub length-credit : (serial kind j : ℕ) (rs : List Row) → length (credit w serial kind j rs) ≡ length rs
   unfolding credit
   length-credit serial kind j [] = refl
   length-credit serial kind j (r ∷ rs) = ap suc (length-credit serial kind j rs)

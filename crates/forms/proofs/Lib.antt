@@ -6,5 +6,6 @@ pub mod Meaning
 pub mod Order
 pub mod Rosters
 pub mod RoundTrip
+pub mod Single
 pub mod Told
 pub mod Words

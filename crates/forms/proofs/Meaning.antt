@@ -15,7 +15,7 @@ use borrow.Author.Tests.{ltb-true, lt-ltb, eqb-true, eqb-false, eq-eqb}
 use Rattle.forms.specs.Number.{orElse}
 use Rattle.forms.specs.Field.{field}
 use Rattle.forms.specs.Roster.{count, twins, rosterNumber}
-use Rattle.forms.specs.Form.{linesOf, faultsOf, ownOf, serialsOf, FormTold, formNumber, formTold, WriteTold, writeTold, formWritten}
+use Rattle.forms.specs.Form.{linesOf, faultsOf, ownOf, serialsOf, misplaced, FormTold, formNumber, formTold, WriteTold, writeTold, formWritten}
 use Rattle.forms.specs.Frame.{badKind, FrameTold, frameNumber, frameTold, frameWritten}
 use Rattle.forms.proofs.Words.{length-words}
 
@@ -136,20 +136,20 @@ twice-says l = (twins-lines l, λ t. lines-twins l (t .first) (t .second) (t .ap
 -- ---- tests
 
 -- the test passes exactly where the proposition holds
-abbrev Decides : Bool → Type 0 → Type 0
+abbrev pub Decides : Bool → Type 0 → Type 0
 Decides t C = (t ≡ true) ↔ C
 
-less : (a b : ℕ) → Decides (ltb a b) (a < b)
+pub less : (a b : ℕ) → Decides (ltb a b) (a < b)
 less a b = (ltb-true a b, lt-ltb a b)
 
-equal : (a b : ℕ) → Decides (eqb a b) (a ≡ b)
+pub equal : (a b : ℕ) → Decides (eqb a b) (a ≡ b)
 equal a b = (eqb-true a b, eq-eqb a b)
 
-opposite : (t : Bool) {C : Type 0} → Decides t C → Decides (not t) (C → ⊥)
+pub opposite : (t : Bool) {C : Type 0} → Decides t C → Decides (not t) (C → ⊥)
 opposite true d = (λ e. absurd (false≢true e), λ n. absurd (n (d .0 refl)))
 opposite false d = (λ e c. false≢true (d .1 c), λ n. refl)
 
-either : (s t : Bool) {A B : Type 0} → Decides s A → Decides t B → Decides (s || t) (A or B)
+pub either : (s t : Bool) {A B : Type 0} → Decides s A → Decides t B → Decides (s || t) (A or B)
 either true t c d = (λ e. inl (c .0 refl), λ x. refl)
 either false true c d = (λ e. inr (d .0 refl), λ x. refl)
 either false false {A} {B} c d = (λ e. absurd (false≢true e), none)
@@ -158,12 +158,12 @@ either false false {A} {B} c d = (λ e. absurd (false≢true e), none)
     none (inl a) = c .1 a
     none (inr b) = d .1 b
 
-both : (s t : Bool) {A B : Type 0} → Decides s A → Decides t B → Decides (s && t) (A × B)
+pub both : (s t : Bool) {A B : Type 0} → Decides s A → Decides t B → Decides (s && t) (A × B)
 both true t c d = (λ e. (c .0 refl, d .0 e), λ x. d .1 (x .1))
 both false t c d = (λ e. absurd (false≢true e), λ x. c .1 (x .0))
 
 -- a check in front of others, if none of those gives its number
-in-front : (n : ℕ) {C : Type 0} {t : Bool} {rest : ℕ} {checks : List Check} →
+pub in-front : (n : ℕ) {C : Type 0} {t : Bool} {rest : ℕ} {checks : List Check} →
     Decides t C → (Given checks n → ⊥) → Says rest checks → Says (cond t n rest) (n when C ∷ checks)
 in-front n {C} {t} {rest} {checks} d fresh says = record { exactly = λ k. go k (eqb k n) refl t d }
   where
@@ -174,7 +174,7 @@ in-front n {C} {t} {rest} {checks} d fresh says = record { exactly = λ k. go k 
     go k false e true d = (λ r. absurd (eqb-false k n e (sym r)), λ g. absurd (g .0 (d .0 refl)))
     go k false e false d = (λ r. (λ c. false≢true (d .1 c), says .exactly k .0 r), λ g. says .exactly k .1 (g .1))
 
-none : Says 0 []
+pub none : Says 0 []
 none = record { exactly = λ k. (sym, sym) }
 
 -- ---- the roster
@@ -197,12 +197,12 @@ absent own serials =
     (λ e m. omega (arith, counted m), λ n. elim (decLt 0 (count own serials)) [ yes p ↦ absurd (n (found own serials p)) | no q ↦ omega arith ])
 
 -- other checks behind come after the last of these
-past : (t : Bool) (n rest next : ℕ) → orElse (cond t (suc n) rest) next ≡ cond t (suc n) (orElse rest next)
+pub past : (t : Bool) (n rest next : ℕ) → orElse (cond t (suc n) rest) next ≡ cond t (suc n) (orElse rest next)
 past true n rest next = refl
 past false n rest next = refl
 
 -- a roster's number, with other checks behind
-roster-then : (f own : ℕ) (serials : List ℕ) {next : ℕ} {checks : List Check} →
+pub roster-then : (f own : ℕ) (serials : List ℕ) {next : ℕ} {checks : List Check} →
     Says next checks → (Given checks 2 → ⊥) × (Given checks 3 → ⊥) × (Given checks 4 → ⊥) × (Given checks 5 → ⊥) →
     Says (orElse (rosterNumber f own serials) next) (rosterChecks (length serials) f own serials ++ checks)
 unfolding rosterNumber
@@ -242,13 +242,26 @@ pub form-told : (b : List ℕ) → formTold b .number ≡ formNumber b
 unfolding formTold
 form-told b = told (λ (t : FormTold). t .number) _ _ (formNumber b) refl refl
 
+misplaced-says : (b : List ℕ) → Decides (misplaced b) (Misplaced b)
+misplaced-says b = either _ _ (either _ _ (less (length b) 8) (opposite _ (equal (field 2 b 2) 8))) (opposite _ (equal (length b) (8 + 4 * linesOf b)))
+
 -- the form reader's number is what rows 1 to 5 give
 pub form-says : (b : List ℕ) → Says (formTold b .number) (formChecks b)
 unfolding formNumber
 form-says b =
     rw (form-told b)
-    (in-front 1 (either _ _ (either _ _ (less (length b) 8) (opposite _ (equal (field 2 b 2) 8))) (opposite _ (equal (length b) (8 + 4 * linesOf b)))) (omega arith)
+    (in-front 1 (misplaced-says b) (omega arith)
     (rw (length-words (linesOf b) 4 b 8) at (roster-says (faultsOf b) (ownOf b) (serialsOf b))))
+
+-- a form's number, with other checks behind
+pub form-then : (b : List ℕ) {next : ℕ} {checks : List Check} →
+    Says next checks → (Given checks 1 → ⊥) × (Given checks 2 → ⊥) × (Given checks 3 → ⊥) × (Given checks 4 → ⊥) × (Given checks 5 → ⊥) →
+    Says (orElse (formNumber b) next) (formChecks b ++ checks)
+unfolding formNumber
+form-then b {next} {checks} says fresh =
+    rw past
+    (in-front 1 (misplaced-says b) (λ g. fresh .0 (g .1 .1 .1 .1))
+    (rw (length-words (linesOf b) 4 b 8) at (roster-then (faultsOf b) (ownOf b) (serialsOf b) says (fresh .1, fresh .2, fresh .3, fresh .4))))
 
 -- numbers 10 and 11
 abbrev pub frameChecks : ℕ → List ℕ → List Check

@@ -13,11 +13,11 @@ use Rattle.forms.specs.Field.{field, putField, Bytes}
 use Rattle.forms.proofs.Fields.{field-same, field-lt, put-field}
 use Rattle.evidence.specs.Rows.{Row, rowSize, rowsAt, putRows}
 use Rattle.evidence.proofs.Layouts.{rows-same, put-rows}
-use Rattle.evidence.proofs.Encoded.{RowsFit, rows-read-back, length-putRows, getD-putRows-before}
+use Rattle.evidence.proofs.Encoded.{RowsFit, rows-read-back, length-putRows, bytes-putRows, getD-putRows-before}
 use Rattle.node.specs.Delivery.{State}
 use Rattle.node.specs.Image.{Layout, imageSize, nodeOf, rowsOf, stateOf, putClock, putFixed, putNode, putState, fixedHeader}
 use Rattle.node.specs.declared.node.Node.{Node}
-use Rattle.node.proofs.Stores.{Store, store, putStores, apart, stored-at, stores-apart, length-stores, getD-stores, getD-above, field-byte}
+use Rattle.node.proofs.Stores.{Store, store, putStores, apart, stored-at, stores-apart, length-stores, bytes-stores, getD-stores, getD-above, field-byte}
 
 -- a node whose numbers fit their fields
 pub record NodeFits (p : Node) : Type 0 where
@@ -56,6 +56,13 @@ length-putClock b p = ap length (clock-stores b p) ∙ length-stores b (clockSto
 
 pub length-putNode : (L : Layout) (b : List ℕ) (p : Node) → length (putNode L b p) ≡ length b
 length-putNode L b p = ap length (node-stores L b p) ∙ length-stores b (nodeStores L p)
+
+pub bytes-putClock : (b : List ℕ) (p : Node) → Bytes b → Bytes (putClock b p)
+bytes-putClock b p h = subst Bytes (sym (clock-stores b p)) (bytes-stores b (clockStores p) h)
+
+pub bytes-putState : (L : Layout) (b : List ℕ) (s : State) → Bytes b → Bytes (putState L b s)
+unfolding putState
+bytes-putState L b s h = bytes-putRows (L .masks) (putNode L b (s .node)) 32 (s .rows) (subst Bytes (sym (node-stores L b (s .node))) (bytes-stores b (nodeStores L (s .node)) h))
 
 -- ---- a whole header reads back
 

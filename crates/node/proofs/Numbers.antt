@@ -1,0 +1,97 @@
+-- The numbers of boot, deliver and read are given exactly when the paper says, and in no other case (01, "Numbers given back"). The
+-- rows of the paper's table as plain propositions, in its order; `Says` and `Given` are those of the forms' own table.
+-- Assumes nothing.
+use mathlib.Core.Path.{_≡_, refl, sym, ap, _∙_, subst}
+use mathlib.Core.Logic.{_↔_, Iff·trans}
+use mathlib.Core.Bool.{Bool, true, false, cond, not, _&&_}
+use mathlib.Core.List.{List, [], _∷_, _++_, List·Memᴰ}
+use Prim.Native.Nat.{ℕ, zero, suc, _≤_, _<_}
+use native.Mathlib.Decide.{decLt}
+use native.Mathlib.Omega.{arith}
+use borrow.Author.Tests.{eqb-true, eqb-false}
+use lib.ListN.{length, getD}
+use lib.Dec.{ltb, eqb}
+use Rattle.forms.specs.Field.{field, words}
+use Rattle.forms.specs.Form.{linesOf, formNumber}
+use Rattle.forms.specs.Frame.{frameNumber}
+use Rattle.forms.specs.Roster.{count}
+use Rattle.forms.proofs.Meaning.{Check, _when_, Given, Says, Decides, less, equal, opposite, in-front, none, formChecks, form-then, frameChecks, frame-says, frame-told, member-says}
+use Rattle.evidence.specs.Rows.{rowSize}
+use Rattle.node.specs.Calls.{Outcome, outcome, Reading, bootNumber, booted, deliverNumber, deliverOutcome, readNumber, reading}
+use Rattle.node.specs.Image.{Layout, imageSize, soundImage}
+
+-- the number that an outcome tells is the number that decides it
+decides : (number : ℕ) (image out : List ℕ) (done : Outcome) → done .number ≡ 0 → outcome number image out done .number ≡ number
+decides number image out done e = go (eqb number 0) refl
+  where
+    go : (t : Bool) → eqb number 0 ≡ t → (cond t done (record { number = number; records = 0; image = image; out = out })) .number ≡ number
+    go true f = e ∙ sym (eqb-true number 0 f)
+    go false f = refl
+
+-- ---- boot: 1 to 5 of the form, 6, 7
+
+abbrev pub bootChecks : Layout → List ℕ → List ℕ → List ℕ → List Check
+bootChecks L form image out = formChecks form ++ 6 when (length image < imageSize L (linesOf form)) ∷ 7 when (length out < 192) ∷ []
+
+pub boot-told : (L : Layout) (form image out : List ℕ) → booted L form image out .number ≡ bootNumber L form (length image) (length out)
+unfolding booted
+boot-told L form image out = decides (bootNumber L form (length image) (length out)) image out _ refl
+
+pub boot-says : (L : Layout) (form image out : List ℕ) → Says (booted L form image out .number) (bootChecks L form image out)
+unfolding bootNumber
+boot-says L form image out =
+    rw (boot-told L form image out)
+    (form-then form (in-front 6 (less (length image) (imageSize L (linesOf form))) (omega arith) (in-front 7 (less (length out) 192) (omega arith) none)) (omega arith))
+
+-- ---- deliver: 7, 8, 9, then 10 and 11 of the frame
+
+-- the serials of an image's rows
+abbrev pub rosterIn : Layout → List ℕ → List ℕ
+rosterIn L image = words (getD image 0 0) (rowSize (L .masks)) image 32
+
+abbrev pub deliverChecks : Layout → ℕ → List ℕ → ℕ → List ℕ → List ℕ → List Check
+deliverChecks L last image port frame out =
+    7 when (length out < 192) ∷ 8 when (soundImage L last image ≡ true → ⊥) ∷ 9 when (List·Memᴰ port (rosterIn L image) → ⊥) ∷ frameChecks last frame
+
+pub deliver-told : (L : Layout) (last : ℕ) (image : List ℕ) (port : ℕ) (frame out : List ℕ) → deliverOutcome L last image port frame out .number ≡ deliverNumber L last image port frame (length out)
+unfolding deliverOutcome
+deliver-told L last image port frame out = decides (deliverNumber L last image port frame (length out)) image out _ refl
+
+is-true : (t : Bool) → Decides t (t ≡ true)
+is-true t = (λ e. e, λ e. e)
+
+-- a test that passes where the next number is looked for
+swap : (t : Bool) (a b : ℕ) → cond t a b ≡ cond (not t) b a
+swap true a b = refl
+swap false a b = refl
+
+unlisted : (port : ℕ) (l : List ℕ) → Decides (eqb (count port l) 0) (List·Memᴰ port l → ⊥)
+unlisted port l = Iff·trans (equal (count port l) 0) (λ e m. omega (arith, member-says port l .1 m), λ n. elim (decLt 0 (count port l)) [ yes p ↦ absurd (n (member-says port l .0 p)) | no q ↦ omega arith ])
+
+pub deliver-says : (L : Layout) (last : ℕ) (image : List ℕ) (port : ℕ) (frame out : List ℕ) → Says (deliverOutcome L last image port frame out .number) (deliverChecks L last image port frame out)
+unfolding deliverNumber
+deliver-says L last image port frame out =
+    rw (deliver-told L last image port frame out)
+    (in-front 7 (less (length out) 192) (omega arith)
+    (rw (swap (soundImage L last image))
+    (in-front 8 (opposite (soundImage L last image) (is-true (soundImage L last image))) (omega arith)
+    (in-front 9 (unlisted port (rosterIn L image)) (omega arith) (rw (frame-told last frame) at (frame-says last frame))))))
+
+-- ---- read: 8, 12
+
+abbrev pub readChecks : Layout → ℕ → List ℕ → List Check
+readChecks L last image = 8 when (soundImage L last image ≡ true → ⊥) ∷ 12 when (getD image 2 0 ≡ 0) ∷ []
+
+pub read-told : (L : Layout) (last : ℕ) (image : List ℕ) → reading L last image .number ≡ readNumber L last image
+unfolding reading
+read-told L last image = go (eqb (readNumber L last image) 0) refl
+  where
+    go : (t : Bool) → eqb (readNumber L last image) 0 ≡ t → (cond {A = Reading} t (record { number = 0; clock = field 4 image 8 }) (record { number = readNumber L last image; clock = 0 })) .number ≡ readNumber L last image
+    go true e = sym (eqb-true (readNumber L last image) 0 e)
+    go false e = refl
+
+pub read-says : (L : Layout) (last : ℕ) (image : List ℕ) → Says (reading L last image .number) (readChecks L last image)
+unfolding readNumber
+read-says L last image =
+    rw (read-told L last image, swap (soundImage L last image))
+    (in-front 8 (opposite (soundImage L last image) (is-true (soundImage L last image))) (omega arith) (in-front 12 (equal (getD image 2 0) 0) (omega arith) none))

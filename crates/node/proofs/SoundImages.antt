@@ -1,0 +1,296 @@
+-- A sound image stays sound: after boot, and after every accepted delivery; and its bytes hold just the node that the definitions
+-- on lists give. Over the layout and the last tick.
+-- Assumes nothing.
+use mathlib.Core.Path.{_≡_, refl, sym, ap, ap₂, _∙_, subst}
+use mathlib.Core.Bool.{Bool, true, false, cond}
+use mathlib.Core.List.{List, [], _∷_, map}
+use Prim.Native.Nat.{ℕ, zero, suc, _+_, _-_, _*_, _^_, _≤_, _<_}
+use native.Mathlib.Omega.{arith}
+use borrow.Author.Tests.{eq-eqb, ne-eqb, ltb-false, lt-ltb}
+use lib.ListN.{length, getD}
+use lib.Dec.{ltb, eqb, lit<}
+use Rattle.forms.specs.Field.{field, words, Bytes}
+use native.Mathlib.Nat.{one-le-pow}
+use Rattle.forms.specs.Form.{misplaced, linesOf, faultsOf, ownOf, serialsOf, formNumber}
+use Rattle.forms.specs.Number.{orElse}
+use Rattle.forms.specs.Roster.{rosterNumber}
+use Rattle.forms.proofs.Fields.{field-lt}
+use Rattle.forms.proofs.Words.{Words, length-words, words-words}
+use Rattle.evidence.specs.Ticks.{empty}
+use Rattle.evidence.specs.Rows.{Row, rowSize, rowsAt, credit, putRows}
+use Rattle.evidence.proofs.Layouts.{length-rows}
+use Rattle.evidence.proofs.Encoded.{SetFits, RowsFit, rows-fit, credit-fits, length-credit}
+use Rattle.node.specs.Calls.{Outcome, outcome, bootNumber, freshState, booted, deliverNumber, deliveryOf, imageAfter, deliverOutcome}
+use Rattle.node.specs.Delivery.{State, Delivered, delivered}
+use Rattle.node.specs.Describe.{freshNode, freshRows, bootRecords}
+use Rattle.node.specs.Image.{Layout, imageSize, nodeOf, stateOf, fixedHeader, soundImage, putClock, putState}
+use Rattle.node.specs.Record.{putRecords}
+use Rattle.node.specs.declared.node.Node.{Node}
+use Rattle.node.proofs.Fresh.{fresh-serials, fresh-length, fresh-sound}
+use Rattle.node.proofs.Images.{Fine, NodeFits, state-after, fixed-after, length-after, node-after, state-read-back, fixed-of-state, length-putState}
+use Rattle.node.proofs.Sound.{SoundNode, SoundBytes, sound-bytes, bytes-sound, rows-inside, stated-size}
+use Rattle.node.proofs.Stays.{Sound, Ordered, sound-facts, sound-test, sound-after, ordered-after}
+use Rattle.node.proofs.Taken.{Taken, deliver-taken, WholeFrame, frame-whole}
+
+-- a layout that works: its numbers fit, and its window fits a mask of its bytes
+pub record Works (L : Layout) : Type 0 where
+  pub fine : Fine L
+  pub bits : ℕ
+  pub masks : 256 ^ L .masks ≡ 2 ^ bits
+  pub wide : 0 < L .window
+  pub narrow : L .window ≤ bits
+
+-- ---- what a number decides
+
+decided : (number : ℕ) (image out : List ℕ) (done : Outcome) → number ≡ 0 → outcome number image out done ≡ done
+decided number image out done e = ap (λ (t : Bool). cond t done (record { number = number; records = 0; image = image; out = out })) (eq-eqb number 0 e)
+
+refused : (number : ℕ) (image out : List ℕ) (done : Outcome) → (number ≡ 0 → ⊥) → outcome number image out done ≡ record { number = number; records = 0; image = image; out = out }
+refused number image out done n = ap (λ (t : Bool). cond t done (record { number = number; records = 0; image = image; out = out })) (ne-eqb number 0 n)
+
+module _ (L : Layout) (last : ℕ) (image : List ℕ) (port : ℕ) (frame out : List ℕ) where
+  pub deliver-done : deliverNumber L last image port frame (length out) ≡ 0 → deliverOutcome L last image port frame out ≡ record { number = 0; records = length (deliveryOf L last image port frame .records); image = imageAfter L image (deliveryOf L last image port frame); out = putRecords out 0 (deliveryOf L last image port frame .records) }
+  unfolding deliverOutcome
+  deliver-done e = decided (deliverNumber L last image port frame (length out)) image out _ e
+
+  pub deliver-refused : (deliverNumber L last image port frame (length out) ≡ 0 → ⊥) → deliverOutcome L last image port frame out ≡ record { number = deliverNumber L last image port frame (length out); records = 0; image = image; out = out }
+  unfolding deliverOutcome
+  deliver-refused n = refused (deliverNumber L last image port frame (length out)) image out _ n
+
+module _ (L : Layout) (form image out : List ℕ) where
+  pub boot-done : bootNumber L form (length image) (length out) ≡ 0 → booted L form image out ≡ record { number = 0; records = 1; image = putState L image (freshState form); out = putRecords out 0 bootRecords }
+  unfolding booted
+  boot-done e = decided (bootNumber L form (length image) (length out)) image out _ e
+
+  pub boot-kept : (bootNumber L form (length image) (length out) ≡ 0 → ⊥) → booted L form image out ≡ record { number = bootNumber L form (length image) (length out); records = 0; image = image; out = out }
+  unfolding booted
+  boot-kept n = refused (bootNumber L form (length image) (length out)) image out _ n
+
+-- ---- an accepted delivery
+
+module _ (L : Layout) (last : ℕ) (works : Works L) (small : last < 2 ^ 32) (image : List ℕ) (port : ℕ) (frame : List ℕ) (outLength : ℕ) (bytes : Bytes image) (ok : deliverNumber L last image port frame outLength ≡ 0) where
+  taken : Taken L last image port frame outLength
+  taken = deliver-taken L last image port frame outLength ok
+
+  before : SoundBytes L last image
+  before = sound-bytes L last image (taken .sound)
+
+  whole : WholeFrame last frame
+  whole = frame-whole last frame (taken .shape)
+
+  start : State
+  start = stateOf L image
+
+  count : start .node .lines ≡ length (start .rows)
+  unfolding start stateOf nodeOf
+  count = sym (length-rows (L .masks) (getD image 0 0) image 32)
+
+  sound : Sound (L .window) last start
+  unfolding start
+  sound = sound-facts (L .window) last (stateOf L image) (before .node)
+
+  kind : ℕ
+  kind = getD frame 0 0
+
+  tick : ℕ
+  tick = field 4 frame 4
+
+  late : tick ≤ last
+  unfolding tick
+  late = whole .tick
+
+  after : Delivered
+  after = delivered (L .window) last start port kind tick
+
+  ordered : Ordered last (start .node) (after .state .node)
+  unfolding after
+  ordered = ordered-after (L .window) last start port kind tick (works .wide) count sound late
+
+  lines-kept : after .state .node .lines ≡ getD image 0 0
+  unfolding start stateOf nodeOf
+  lines-kept = ordered .lines
+
+  fits : NodeFits (after .state .node)
+  unfolding start stateOf nodeOf
+  fits =
+      record {
+        lines = subst (λ (x : ℕ). x < 256) (sym (ordered .lines)) (bytes 0);
+        faults = subst (λ (x : ℕ). x < 256) (sym (ordered .faults)) (bytes 1);
+        own = subst (λ (x : ℕ). x < 2 ^ 32) (sym (ordered .own)) (field-lt 4 image 4 bytes);
+        mode = omega (arith, ordered .mode);
+        tick = omega (arith, ordered .tick);
+        sent = omega (arith, ordered .sent, ordered .tick);
+      }
+
+  rows-fits : RowsFit (L .masks) (after .state .rows)
+  unfolding after delivered start stateOf
+  rows-fits =
+      credit-fits (L .masks) (works .bits) (L .window) (works .masks) (works .wide) (works .narrow) port kind tick (rowsAt (L .masks) (getD image 0 0) image 32) (omega (arith, late))
+      (rows-fit (L .masks) (getD image 0 0) image 32 bytes)
+
+  as-many : length (after .state .rows) ≡ length (start .rows)
+  unfolding after delivered
+  as-many = length-credit (L .masks) (works .bits) (L .window) (works .masks) (works .wide) (works .narrow) port kind tick (start .rows)
+
+  rows-count : length (after .state .rows) ≡ after .state .node .lines
+  rows-count = as-many ∙ sym count ∙ sym (ordered .lines)
+
+  room : imageSize L (after .state .node .lines) ≤ length image
+  room = subst (λ (n : ℕ). imageSize L n ≤ length image) (sym lines-kept) (rows-inside L image (before .fixed) (before .stated))
+
+  next : List ℕ
+  next = putClock (putRows (L .masks) image 32 (after .state .rows)) (after .state .node)
+
+  own-kept : after .state .node .own ≡ field 4 image 4
+  unfolding start stateOf nodeOf
+  own-kept = ordered .own
+
+  faults-kept : after .state .node .faults ≡ getD image 1 0
+  unfolding start stateOf nodeOf
+  faults-kept = ordered .faults
+
+  -- the bytes hold the node that the definitions on lists give
+  state-delivered : stateOf L (putClock (putRows (L .masks) image 32 (after .state .rows)) (after .state .node)) ≡ after .state
+  state-delivered = state-after L image (after .state .node) (after .state .rows) fits rows-fits lines-kept faults-kept own-kept rows-count room
+
+  fixed-kept : fixedHeader L next ≡ true
+  unfolding next
+  fixed-kept = fixed-after L image (after .state .node) (after .state .rows) fits rows-fits lines-kept faults-kept own-kept rows-count room ∙ before .fixed
+
+  long : length next ≡ length image
+  unfolding next
+  long = length-after L image (after .state .node) (after .state .rows) fits rows-fits lines-kept faults-kept own-kept rows-count room
+
+  lines-next : getD next 0 0 ≡ after .state .node .lines
+  unfolding next nodeOf
+  lines-next = ap (λ (p : Node). p .lines) (node-after L image (after .state .node) (after .state .rows) fits rows-fits lines-kept faults-kept own-kept rows-count room)
+
+  sound-next : SoundNode (L .window) last (stateOf L next)
+  unfolding next after
+  sound-next = subst (SoundNode (L .window) last) (sym state-delivered) (sound-test (L .window) last (after .state) (sound-after (L .window) last start port kind tick (works .wide) count sound late))
+
+  next-sound : soundImage L last next ≡ true
+  next-sound =
+      bytes-sound L last next
+      (record {
+        header = omega (arith, before .header, long);
+        stated = subst (λ (n : ℕ). n ≤ length next) (sym (stated-size L next fixed-kept ∙ ap (imageSize L) lines-next)) (subst (λ (n : ℕ). imageSize L (after .state .node .lines) ≤ n) (sym long) room);
+        fixed = fixed-kept;
+        node = sound-next;
+      })
+
+-- an accepted delivery leaves a sound image, of the length it had, which holds the node that follows
+pub record Follows (L : Layout) (last : ℕ) (image : List ℕ) (d : Delivered) (next : List ℕ) : Type 0 where
+  pub sound : soundImage L last next ≡ true
+  pub state : stateOf L next ≡ d .state
+  pub size : length next ≡ length image
+
+pub delivery-sound : (L : Layout) (last : ℕ) → Works L → last < 2 ^ 32 → (image : List ℕ) (port : ℕ) (frame : List ℕ) (outLength : ℕ) → Bytes image → deliverNumber L last image port frame outLength ≡ 0 → Follows L last image (deliveryOf L last image port frame) (imageAfter L image (deliveryOf L last image port frame))
+unfolding imageAfter deliveryOf next after start kind tick
+delivery-sound L last works small image port frame outLength bytes ok =
+    record {
+      sound = next-sound L last works small image port frame outLength bytes ok;
+      state = state-delivered L last works small image port frame outLength bytes ok;
+      size = long L last works small image port frame outLength bytes ok;
+    }
+
+-- ---- boot
+
+-- what an accepted boot has been asked
+pub record Started (L : Layout) (form : List ℕ) (imageLength outLength : ℕ) : Type 0 where
+  pub roster : formNumber form ≡ 0
+  pub image : imageSize L (linesOf form) ≤ imageLength
+  pub out : 192 ≤ outLength
+
+boot-taken : (L : Layout) (form : List ℕ) (imageLength outLength : ℕ) → bootNumber L form imageLength outLength ≡ 0 → Started L form imageLength outLength
+unfolding bootNumber
+boot-taken L form imageLength outLength e = go (formNumber form) refl (ltb imageLength (imageSize L (linesOf form))) refl (ltb outLength 192) refl e
+  where
+    go : (n : ℕ) → formNumber form ≡ n → (a : Bool) → ltb imageLength (imageSize L (linesOf form)) ≡ a → (b : Bool) → ltb outLength 192 ≡ b → orElse n (cond a 6 (cond b 7 0)) ≡ 0 → Started L form imageLength outLength
+    go (suc n) f a p b q r = absurd (omega arith)
+    go zero f true p b q r = absurd (omega arith)
+    go zero f false p true q r = absurd (omega arith)
+    go zero f false p false q r = record { roster = f; image = ltb-false imageLength (imageSize L (linesOf form)) p; out = ltb-false outLength 192 q }
+
+-- a form that is taken has a roster that is
+form-roster : (form : List ℕ) → formNumber form ≡ 0 → rosterNumber (faultsOf form) (ownOf form) (serialsOf form) ≡ 0
+unfolding formNumber
+form-roster form e = go (misplaced form) e
+  where
+    go : (t : Bool) → cond t 1 (rosterNumber (faultsOf form) (ownOf form) (serialsOf form)) ≡ 0 → rosterNumber (faultsOf form) (ownOf form) (serialsOf form) ≡ 0
+    go true f = absurd (omega arith)
+    go false f = f
+
+fresh-fits : (mb : ℕ) (serials : List ℕ) → Words serials → RowsFit mb (freshRows serials)
+unfolding freshRows
+fresh-fits mb [] h = tt
+fresh-fits mb (x ∷ xs) h = (record { serial = h 0; echo = none; init = none }, fresh-fits mb xs (λ k. h (suc k)))
+  where
+    none : SetFits mb empty
+    none = record { top = lit< tt; mask = one-le-pow mb 256 (lit< tt) }
+
+module _ (L : Layout) (last : ℕ) (works : Works L) (form image : List ℕ) (outLength : ℕ) (bytes : Bytes form) (ok : bootNumber L form (length image) outLength ≡ 0) where
+  started : Started L form (length image) outLength
+  started = boot-taken L form (length image) outLength ok
+
+  lines : length (serialsOf form) ≡ linesOf form
+  lines = length-words (linesOf form) 4 form 8
+
+  fresh : Sound (L .window) last (freshState form)
+  unfolding freshState
+  fresh =
+      subst (λ (n : ℕ). Sound (L .window) last (record { node = freshNode n (faultsOf form) (ownOf form); rows = freshRows (serialsOf form) })) lines
+      (fresh-sound (L .window) last (faultsOf form) (ownOf form) (serialsOf form) (form-roster form (started .roster)))
+
+  node-fits : NodeFits (freshState form .node)
+  unfolding freshState
+  node-fits = record { lines = bytes 0; faults = bytes 1; own = field-lt 4 form 4 bytes; mode = lit< tt; tick = lit< tt; sent = lit< tt }
+
+  sets-fit : RowsFit (L .masks) (freshState form .rows)
+  unfolding freshState
+  sets-fit = fresh-fits (L .masks) (serialsOf form) (words-words (linesOf form) 4 form 8 bytes)
+
+  lines-fresh : length (freshState form .rows) ≡ freshState form .node .lines
+  unfolding freshState
+  lines-fresh = fresh-length (serialsOf form) ∙ lines
+
+  room-fresh : imageSize L (freshState form .node .lines) ≤ length image
+  unfolding freshState
+  room-fresh = started .image
+
+  image-fixed : fixedHeader L (putState L image (freshState form)) ≡ true
+  image-fixed = fixed-of-state L image (freshState form) (works .fine) node-fits sets-fit lines-fresh room-fresh
+
+  image-state : stateOf L (putState L image (freshState form)) ≡ freshState form
+  image-state = state-read-back L image (freshState form) (works .fine) node-fits sets-fit lines-fresh room-fresh
+
+  image-long : length (putState L image (freshState form)) ≡ length image
+  image-long = length-putState L image (freshState form) (works .fine) node-fits sets-fit lines-fresh room-fresh
+
+  image-lines : getD (putState L image (freshState form)) 0 0 ≡ freshState form .node .lines
+  unfolding stateOf nodeOf
+  image-lines = ap (λ (s : State). s .node .lines) image-state
+
+  image-sound : soundImage L last (putState L image (freshState form)) ≡ true
+  image-sound =
+      bytes-sound L last (putState L image (freshState form))
+      (record {
+        header = omega (arith, room-fresh, image-long);
+        stated = subst (λ (n : ℕ). n ≤ length (putState L image (freshState form))) (sym (stated-size L (putState L image (freshState form)) image-fixed ∙ ap (imageSize L) image-lines)) (subst (λ (n : ℕ). imageSize L (freshState form .node .lines) ≤ n) (sym image-long) room-fresh);
+        fixed = image-fixed;
+        node = subst (SoundNode (L .window) last) (sym image-state) (sound-test (L .window) last (freshState form) fresh);
+      })
+
+-- an accepted boot leaves a sound image, of the length it had, which holds the fresh node
+pub record Begins (L : Layout) (last : ℕ) (image form next : List ℕ) : Type 0 where
+  pub sound : soundImage L last next ≡ true
+  pub state : stateOf L next ≡ freshState form
+  pub size : length next ≡ length image
+
+pub boot-sound : (L : Layout) (last : ℕ) → Works L → (form image : List ℕ) (outLength : ℕ) → Bytes form → bootNumber L form (length image) outLength ≡ 0 → Begins L last image form (putState L image (freshState form))
+boot-sound L last works form image outLength bytes ok =
+    record {
+      sound = image-sound L last works form image outLength bytes ok;
+      state = image-state L last works form image outLength bytes ok;
+      size = image-long L last works form image outLength bytes ok;
+    }

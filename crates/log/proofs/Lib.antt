@@ -1,0 +1,7 @@
+-- The laws and theorems of `log` that belong to no single function.
+mod Examples
+pub mod Decimals
+pub mod Lays
+pub mod LogTrip
+pub mod Logs
+pub mod Puts

@@ -1,0 +1,313 @@
+-- What the log's writer wrote its reader gives back, form and events too, and what the reader took the writer writes again byte for
+-- byte; bytes behind what is written stay, and a refusal changes no byte. Number 13 is given exactly when the paper says, and 7 after it.
+-- Assumes nothing.
+use mathlib.Core.Path.{_≡_, refl, sym, ap, ap₂, _∙_, subst}
+use mathlib.Core.Logic.{_↔_, inl, inr}
+use mathlib.Core.Bool.{Bool, true, false, cond}
+use mathlib.Core.List.{List, [], _∷_, _++_, append-assoc}
+use Prim.Native.Nat.{ℕ, zero, suc, _+_, _-_, _*_, _/_, _%_, _≤_, _<_}
+use native.Mathlib.Nat.{add-zero, add-suc}
+use native.Mathlib.Omega.{arith}
+use lib.ListN.{length, getD, take, drop, length-append, length-drop, take-append-drop, List·getD-append}
+use lib.Seq.{length-take-le, getD-take, take-suc, take-suc-set, take-at, drop-at, take-add, drop-set-lt}
+use lib.Dec.{eqb}
+use lib.Arith.{digits-div, digits-mod}
+use borrow.Author.Tests.{eqb-true}
+use Rattle.forms.specs.Field.{field, putField, Bytes}
+use Rattle.forms.specs.Form.{WriteTold}
+use Rattle.forms.proofs.Fields.{field-same, field-put, field-put-other, length-put}
+use Rattle.forms.proofs.Meaning.{Check, _when_, Given, Says, roomCheck}
+use Rattle.log.specs.Log.{countOf, eventsAt, formOf, eventsOf, logNumber, LogTold, logTold, lay, putLog, logWritten}
+use Rattle.log.proofs.Lays.{take-lay, drop-lay-behind, length-lay}
+use Rattle.log.proofs.Logs.{Laid, Fit, Judged, log-judged, judged-holds, told-laid, told-broken, logSize, written-fit, Answer, wrote, short, unfit, answer}
+
+-- ---- laws of stores
+
+-- a field stored right behind bytes that the output shares with the bytes that it was read from: they share it too
+take-put : (w : ℕ) (out b : List ℕ) (i : ℕ) → Bytes b → i + w ≤ length out → i + w ≤ length b → take i out ≡ take i b →
+    take (i + w) (putField w out i (field w b i)) ≡ take (i + w) b
+unfolding field putField
+take-put zero out b i h p q e = rw add-zero e
+take-put (suc w) out b i h p q e =
+    rw (digits-div (field w b i) (h (i + w)), digits-mod (field w b i) (h (i + w)), add-suc)
+    (take-suc-set (putField w out i (field w b i)) (i + w) (getD b (i + w) 0) (omega (arith, length-put w out i (field w b i)))
+    ∙ ap (λ (l : List ℕ). l ++ (getD b (i + w) 0 ∷ [])) (take-put w out b i h (omega arith) (omega arith) e)
+    ∙ sym (take-suc b (i + w) 0 (omega arith)))
+
+-- bytes behind a store stay
+drop-put : (w : ℕ) (b : List ℕ) (i v n : ℕ) → i + w ≤ n → drop n (putField w b i v) ≡ drop n b
+unfolding putField
+drop-put zero b i v n p = refl
+drop-put (suc w) b i v n p = drop-set-lt n (putField w b i (v / 256)) (i + w) (v % 256) (omega arith) ∙ drop-put w b i (v / 256) n (omega arith)
+
+-- ---- the bytes that the writer leaves
+
+-- the output with the three fields that stand in front of the form
+abbrev fronted : List ℕ → List ℕ → List ℕ → List ℕ
+fronted form events out = putField 4 (putField 4 (putField 4 out 0 (length events / 12)) 4 12) 8 (12 + length form)
+
+module _ (form events out : List ℕ) (room : logSize form events ≤ length out) where
+  abbrev front : List ℕ
+  front = fronted form events out
+
+  long : length front ≡ length out
+  long = simp length-put
+
+  long-form : length (lay front 12 form) ≡ length out
+  long-form = length-lay front 12 form (omega (arith, long)) ∙ long
+
+  -- behind the fields stands the form, and behind that the events
+  take-log : take (logSize form events) (putLog out form events) ≡ take 12 front ++ form ++ events
+  unfolding putLog
+  take-log =
+      take-lay (lay front 12 form) (12 + length form) events (omega (arith, long-form))
+      ∙ ap (λ (l : List ℕ). l ++ events) (take-lay front 12 form (omega (arith, long)))
+
+  drop-log : drop (logSize form events) (putLog out form events) ≡ drop (logSize form events) out
+  unfolding putLog
+  drop-log =
+      drop-lay-behind (lay front 12 form) (12 + length form) events (logSize form events) (omega arith) (omega (arith, long-form))
+      ∙ drop-lay-behind front 12 form (logSize form events) (omega arith) (omega (arith, long))
+      ∙ drop-put 4 _ 8 (12 + length form) (logSize form events) (omega arith)
+      ∙ drop-put 4 _ 4 12 (logSize form events) (omega arith)
+      ∙ drop-put 4 out 0 (length events / 12) (logSize form events) (omega arith)
+
+  length-log : length (putLog out form events) ≡ length out
+  unfolding putLog
+  length-log = length-lay (lay front 12 form) (12 + length form) events (omega (arith, long-form)) ∙ long-form
+
+-- ---- what is written reads back
+
+-- number 0 is given only where all is written
+done : {form events out : List ℕ} {told : WriteTold} → Answer form events out told → told .number ≡ 0 → Fit form events × (logSize form events ≤ length out)
+done (wrote f p) e = (f, p)
+done (short f p) e = absurd (omega arith)
+done (unfit n) e = absurd (omega arith)
+
+-- the bytes that a writer says it wrote
+abbrev pub bytesOf : WriteTold → List ℕ
+bytesOf told = take (told .written) (told .out)
+
+-- a log that the writer gave number 0
+module _ (form events out : List ℕ) (ok : logWritten form events out .number ≡ 0) where
+  fit : Fit form events
+  fit = done (answer form events out) ok .0
+
+  room : logSize form events ≤ length out
+  room = done (answer form events out) ok .1
+
+  log : List ℕ
+  log = take 12 (fronted form events out) ++ form ++ events
+
+  -- every byte of the log: fields, form, events
+  bytes-log : bytesOf (logWritten form events out) ≡ log
+  unfolding log
+  bytes-log = ap bytesOf (written-fit form events out fit room) ∙ take-log form events out room
+
+  ahead : length (take 12 (fronted form events out)) ≡ 12
+  ahead = length-take-le 12 (fronted form events out) (omega (arith, room, long form events out room))
+
+  ahead-form : length (take 12 (fronted form events out) ++ form) ≡ 12 + length form
+  ahead-form = omega (arith, length-append (take 12 (fronted form events out)) form, ahead)
+
+  -- a field in front of the form
+  header : (i : ℕ) → i + 4 ≤ 12 → field 4 log i ≡ field 4 (fronted form events out) i
+  unfolding log
+  header i p = field-same 4 log (fronted form events out) i i (λ k q. each (i + k) (omega arith))
+    where
+      each : (j : ℕ) → j < 12 → getD log j 0 ≡ getD (fronted form events out) j 0
+      each j q =
+          List·getD-append (take 12 (fronted form events out) ++ form) events 0 j (omega (arith, ahead-form))
+          ∙ List·getD-append (take 12 (fronted form events out)) form 0 j (omega (arith, ahead))
+          ∙ getD-take 12 (fronted form events out) j 0 q
+
+  count-back : countOf log ≡ length events / 12
+  count-back =
+      header 0 (omega arith)
+      ∙ field-put-other 4 4 _ 8 (12 + length form) 0 (omega arith)
+      ∙ field-put-other 4 4 _ 4 12 0 (omega arith)
+      ∙ field-put 4 out 0 (length events / 12) (omega (arith, room)) (omega (arith, fit))
+
+  offset-back : field 4 log 4 ≡ 12
+  offset-back =
+      header 4 (omega arith)
+      ∙ field-put-other 4 4 _ 8 (12 + length form) 4 (omega arith)
+      ∙ field-put 4 _ 4 12 (simp length-put (omega (arith, room))) (omega arith)
+
+  events-at-back : eventsAt log ≡ 12 + length form
+  events-at-back = header 8 (omega arith) ∙ field-put 4 _ 8 (12 + length form) (simp length-put (omega (arith, room))) (omega (arith, fit))
+
+  laid : Laid log
+  unfolding log
+  laid =
+      record {
+        form = offset-back;
+        least = omega (arith, events-at-back, fit);
+        most = omega (arith, events-at-back, fit);
+        few = omega (arith, count-back, fit);
+        whole = omega (arith, length-append (take 12 (fronted form events out) ++ form) events, ahead-form, events-at-back, count-back, fit);
+      }
+
+  -- the length of both parts and 12 is written
+  pub log-written : logWritten form events out .written ≡ logSize form events
+  log-written = ap (λ (t : WriteTold). t .written) (written-fit form events out fit room)
+
+  -- its bytes are read back with the count of events and where they begin
+  pub log-read-back : logTold (bytesOf (logWritten form events out)) ≡ record { number = 0; count = length events / 12; events = 12 + length form }
+  log-read-back =
+      ap logTold bytes-log
+      ∙ told-laid log laid
+      ∙ ap₂ {C = LogTold} (λ (n e : ℕ). record { number = 0; count = n; events = e }) count-back events-at-back
+
+  -- with the form
+  pub form-read-back : formOf (bytesOf (logWritten form events out)) ≡ form
+  unfolding formOf log
+  form-read-back =
+      rw (bytes-log, events-at-back, append-assoc, drop-at (take 12 (fronted form events out)) (form ++ events) 12 ahead)
+      (take-at form events (12 + length form - 12) (omega arith))
+
+  -- and with the events
+  pub events-read-back : eventsOf (bytesOf (logWritten form events out)) ≡ events
+  unfolding eventsOf log
+  events-read-back =
+      rw (bytes-log, events-at-back) (drop-at (take 12 (fronted form events out) ++ form) events (12 + length form) ahead-form)
+
+-- bytes behind what is written stay, and so does the length, whatever the number
+pub log-kept : (form events out : List ℕ) →
+    (drop (logWritten form events out .written) (logWritten form events out .out) ≡ drop (logWritten form events out .written) out)
+    × (length (logWritten form events out .out) ≡ length out)
+log-kept form events out = go (answer form events out)
+  where
+    go : {told : WriteTold} → Answer form events out told →
+        (drop (told .written) (told .out) ≡ drop (told .written) out) × (length (told .out) ≡ length out)
+    go (wrote f p) = (drop-log form events out p, length-log form events out p)
+    go (short f p) = (refl, refl)
+    go (unfit n) = (refl, refl)
+
+-- a log that is refused is not written at all
+pub log-refused : (form events out : List ℕ) → (logWritten form events out .number ≡ 0 → ⊥) →
+    (logWritten form events out .written ≡ 0) × (logWritten form events out .out ≡ out)
+log-refused form events out = go (answer form events out)
+  where
+    go : {told : WriteTold} → Answer form events out told → (told .number ≡ 0 → ⊥) → (told .written ≡ 0) × (told .out ≡ out)
+    go (wrote f p) no-zero = absurd (no-zero refl)
+    go (short f p) no-zero = (refl, refl)
+    go (unfit n) no-zero = (refl, refl)
+
+-- ---- what was read is written again
+
+-- a log that the reader took
+module _ (b : List ℕ) (l : Laid b) where
+  length-form : 12 + length (formOf b) ≡ eventsAt b
+  unfolding formOf
+  length-form = omega (arith, length-take-le (eventsAt b - 12) (drop 12 b) (omega (arith, length-drop 12 b)))
+
+  length-events : length (eventsOf b) ≡ 12 * countOf b
+  unfolding eventsOf
+  length-events = omega (arith, length-drop (eventsAt b) b)
+
+  -- its parts are taken
+  fit-again : Fit (formOf b) (eventsOf b)
+  fit-again =
+      record {
+        least = omega (arith, length-form);
+        most = omega (arith, length-form);
+        whole = omega (arith, length-events);
+        few = omega (arith, length-events);
+      }
+
+  size-again : logSize (formOf b) (eventsOf b) ≡ length b
+  size-again = omega (arith, length-form, length-events)
+
+  -- it is its fields, its form and its events
+  parts : take 12 b ++ formOf b ++ eventsOf b ≡ b
+  unfolding formOf eventsOf
+  parts =
+      let e : 12 + (eventsAt b - 12) ≡ eventsAt b = omega arith in
+      ap (λ (x : List ℕ). x ++ drop (eventsAt b) b) (sym (take-add 12 (eventsAt b - 12) b) ∙ ap (λ (n : ℕ). take n b) e) ∙ take-append-drop (eventsAt b) b
+
+  -- its fields are written again
+  front-again : Bytes b → (out : List ℕ) → length b ≤ length out → take 12 (fronted (formOf b) (eventsOf b) out) ≡ take 12 b
+  front-again h out p =
+      ap₂ (λ (n e : ℕ). take 12 (putField 4 (putField 4 (putField 4 out 0 n) 4 12) 8 e)) (omega (arith, length-events)) length-form
+      ∙ ap (λ (v : ℕ). take 12 (putField 4 (putField 4 (putField 4 out 0 (countOf b)) 4 v) 8 (eventsAt b))) (sym (l .form))
+      ∙ take-put 4 _ b 8 h (simp length-put (omega arith)) (omega arith)
+      (take-put 4 _ b 4 h (simp length-put (omega arith)) (omega arith) (take-put 4 out b 0 h (omega arith) (omega arith) refl))
+
+-- what the reader took, the writer writes byte for byte, over the front of the output
+pub log-written-again : (b out : List ℕ) → Bytes b → logNumber b ≡ 0 → length b ≤ length out →
+    logWritten (formOf b) (eventsOf b) out ≡ record { number = 0; written = length b; out = b ++ drop (length b) out }
+log-written-again b out h e p =
+    written-fit (formOf b) (eventsOf b) out (fit-again b l) room
+    ∙ ap₂ {C = WriteTold} (λ (n : ℕ) (x : List ℕ). record { number = 0; written = n; out = x }) size
+    (sym (take-append-drop (logSize (formOf b) (eventsOf b)) (putLog out (formOf b) (eventsOf b))) ∙ ap₂ (λ (x y : List ℕ). x ++ y) again behind)
+  where
+    l : Laid b
+    l = judged-holds (log-judged b) e
+
+    size : logSize (formOf b) (eventsOf b) ≡ length b
+    size = size-again b l
+
+    room : logSize (formOf b) (eventsOf b) ≤ length out
+    room = omega (arith, size)
+
+    again : take (logSize (formOf b) (eventsOf b)) (putLog out (formOf b) (eventsOf b)) ≡ b
+    again = take-log (formOf b) (eventsOf b) out room ∙ ap (λ (x : List ℕ). x ++ formOf b ++ eventsOf b) (front-again b l h out p) ∙ parts b l
+
+    behind : drop (logSize (formOf b) (eventsOf b)) (putLog out (formOf b) (eventsOf b)) ≡ drop (length b) out
+    behind = drop-log (formOf b) (eventsOf b) out room ∙ ap (λ (n : ℕ). drop n out) size
+
+-- ---- the numbers
+
+-- checks give one number at most
+pub given-one : (checks : List Check) (k m : ℕ) → Given checks k → Given checks m → k ≡ m
+given-one [] k m g h = g ∙ sym h
+given-one (check ∷ checks) k m g h = go (eqb k (check .number)) refl (eqb m (check .number)) refl g h (given-one checks k m)
+  where
+    go : (s : Bool) → eqb k (check .number) ≡ s → (t : Bool) → eqb m (check .number) ≡ t →
+        cond s (check .applies) ((check .applies → ⊥) × Given checks k) → cond t (check .applies) ((check .applies → ⊥) × Given checks m) →
+        (Given checks k → Given checks m → k ≡ m) → k ≡ m
+    go true d true e g h below = eqb-true k (check .number) d ∙ sym (eqb-true m (check .number) e)
+    go true d false e g h below = absurd (h .0 g)
+    go false d true e g h below = absurd (g .0 h)
+    go false d false e g h below = below (g .1) (h .1)
+
+-- so the number that they give is the one that they say
+says : (number : ℕ) (checks : List Check) → Given checks number → Says number checks
+says number checks g =
+    record { exactly = λ k. (λ e. subst (λ (m : ℕ). Given checks m) e g, given-one checks number k g) }
+
+-- the log reader's number is 13 where the layout is broken
+pub log-says : (b : List ℕ) → Says (logTold b .number) (13 when (Laid b → ⊥) ∷ [])
+log-says b = go (log-judged b)
+  where
+    go : {n : ℕ} → Judged n (Laid b) → Says (logTold b .number) (13 when (Laid b → ⊥) ∷ [])
+    go (inl j) = rw (told-laid b (j .1)) (says 0 _ (λ n. n (j .1), refl))
+    go (inr j) = rw (told-broken b (j .1)) (says 13 _ (j .1))
+
+-- the log writer's number is 13 for the parts, and 7 last
+pub log-writer-says : (form events out : List ℕ) →
+    Says (logWritten form events out .number) (13 when (Fit form events → ⊥) ∷ roomCheck (logSize form events) out ∷ [])
+log-writer-says form events out = go (answer form events out)
+  where
+    go : {told : WriteTold} → Answer form events out told → Says (told .number) (13 when (Fit form events → ⊥) ∷ roomCheck (logSize form events) out ∷ [])
+    go (wrote f p) = says 0 _ (λ n. n f, (omega arith, refl))
+    go (short f p) = says 7 _ (λ n. n f, p)
+    go (unfit n) = says 13 _ n
+
+-- ---- single rows
+
+-- each row is one instance of these; so 13 of the reader and of the writer
+row-13 : (b : List ℕ) → (logTold b .number ≡ 13) ↔ (Laid b → ⊥)
+row-13 b = log-says b .exactly 13
+
+writer-row-13 : (form events out : List ℕ) → (logWritten form events out .number ≡ 13) ↔ (Fit form events → ⊥)
+writer-row-13 form events out = log-writer-says form events out .exactly 13
+
+-- the reader takes a log exactly where its layout holds
+pub log-taken : (b : List ℕ) → (logTold b .number ≡ 0) ↔ Laid b
+log-taken b = go (log-judged b)
+  where
+    go : {n : ℕ} → Judged n (Laid b) → (logTold b .number ≡ 0) ↔ Laid b
+    go (inl j) = (λ _. j .1, λ l. ap (λ (t : LogTold). t .number) (told-laid b l))
+    go (inr j) = (λ e. absurd (omega (arith, log-says b .exactly 13 .1 (j .1))), λ l. absurd (j .1 l))

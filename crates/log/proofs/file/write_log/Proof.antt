@@ -1,0 +1,104 @@
+-- `file::write_log` meets its contract: a test of the parts that fails is number 13, then too little room is number 7, and else the
+-- five stores are those of `putLog`, one over the other.
+-- Assumes nothing.
+use borrow.Author.Needs.{needs}
+use mathlib.Core.Path.{sym}
+use native.Mathlib.Omega.{arith}
+use denote.Ref.{now}
+use Rattle.log.specs.Log.{putLog}
+use Rattle.log.proofs.Logs.{Fit, written-fit, written-short, written-unfit}
+use Rattle.log.proofs.file.write_log.Statement.{statement}
+use Rattle.log.proofs.file.write_log.Tie as tie
+
+returns : tie.Need-returns
+returns c =
+    let a = c .before .before .before .before .args in
+    sym (written-unfit (now (a .form)) (now (a .events)) (now (a .out)) (λ f. omega arith))
+
+returns-2 : tie.Need-returns-2
+returns-2 c =
+    let a = c .before .before .before .before .before .args in
+    sym (written-unfit (now (a .form)) (now (a .events)) (now (a .out)) (λ f. omega arith))
+
+returns-3 : tie.Need-returns-3
+returns-3 c =
+    let a = c .before .before .before .before .before .before .args in
+    sym (written-unfit (now (a .form)) (now (a .events)) (now (a .out)) (λ f. omega arith))
+
+returns-4 : tie.Need-returns-4
+returns-4 c =
+    let a = c .before .before .before .before .before .before .before .args in
+    sym (written-unfit (now (a .form)) (now (a .events)) (now (a .out)) (λ f. omega arith))
+
+add-start : tie.Need-add-start
+add-start c = search needs
+
+add-size : tie.Need-add-size
+add-size c = search needs
+
+-- past the tests of the parts the writer takes them
+fit : (c : tie.Else4) → Fit (now (c .before .before .before .before .before .before .before .args .form)) (now (c .before .before .before .before .before .before .before .args .events))
+fit c = record { least = omega arith; most = omega arith; whole = omega arith; few = omega arith }
+
+returns-5 : tie.Need-returns-5
+returns-5 c =
+    let a = c .before .before .before .before .before .before .before .before .args in
+    sym (written-short (now (a .form)) (now (a .events)) (now (a .out)) (fit (c .before)) (omega arith))
+
+cast-put-word : tie.Need-cast-put-word
+cast-put-word c = search needs
+
+put-word-requires : tie.Need-put-word-requires
+put-word-requires c κs = search needs
+
+put-word-requires-2 : tie.Need-put-word-requires-2
+put-word-requires-2 c κs = search needs
+
+cast-put-word-2 : tie.Need-cast-put-word-2
+cast-put-word-2 c = search needs
+
+put-word-requires-3 : tie.Need-put-word-requires-3
+put-word-requires-3 c κs = search needs
+
+put-bytes-requires : tie.Need-put-bytes-requires
+put-bytes-requires c κs = search needs
+
+put-bytes-requires-2 : tie.Need-put-bytes-requires-2
+put-bytes-requires-2 c κs = search needs
+
+same-length : tie.Need-same-length
+same-length c = search needs
+
+returns-6 : tie.Need-returns-6
+unfolding putLog
+returns-6 c =
+    let a = c .before .before .before .before .before .before .before .before .before .before .before .before .before .before .before .before .before .before .before .before .before .before .before .before .before .before .before .before .args in
+    rw (
+      c .before .before .put-bytes2 .ensures,
+      c .before .before .before .before .before .before .put-bytes .ensures,
+      c .before .before .before .before .before .before .before .before .before .before .put-word3 .ensures,
+      c .before .before .before .before .before .before .before .before .before .before .before .before .before .before .put-word2 .ensures,
+      c .before .before .before .before .before .before .before .before .before .before .before .before .before .before .before .before .before .before .put-word .ensures,
+    )
+    (sym (written-fit (now (a .form)) (now (a .events)) (now (a .out)) (fit (c .before .before .before .before .before .before .before .before .before .before .before .before .before .before .before .before .before .before .before .before .before)) (omega arith)))
+
+pub write-log-spec : {M : Type 1} → statement M
+write-log-spec =
+    tie.close
+    (tie.spec
+    returns
+    returns-2
+    returns-3
+    returns-4
+    add-start
+    add-size
+    returns-5
+    cast-put-word
+    put-word-requires
+    put-word-requires-2
+    cast-put-word-2
+    put-word-requires-3
+    put-bytes-requires
+    put-bytes-requires-2
+    same-length
+    returns-6)

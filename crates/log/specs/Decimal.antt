@@ -1,0 +1,15 @@
+-- A number in decimal digits, as ASCII codes: no leading zeros, 0 as "0". The counter is a number of digits that is never reached by
+-- a number of 64 bits.
+use Prim.Native.Nat.{ℕ, zero, suc, _+_, _/_, _%_}
+use mathlib.Core.List.{List, [], _∷_, _++_}
+use mathlib.Core.Bool.{cond}
+use lib.Dec.{ltb}
+
+unfoldable pub decimalIn : ℕ → ℕ → List ℕ
+decimalIn zero n = (48 + n % 10) ∷ []
+decimalIn (suc c) n =
+    let more = decimalIn c (n / 10) ++ ((48 + n % 10) ∷ []) in
+    cond (ltb n 10) ((48 + n) ∷ []) more
+
+unfoldable pub decimal : ℕ → List ℕ
+decimal n = decimalIn 19 n

@@ -1,0 +1,4 @@
+pub mod Decimal
+pub mod Listing
+pub mod Log
+pub mod Played

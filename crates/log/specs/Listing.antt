@@ -1,0 +1,62 @@
+-- The listing of a log (01, "The log program"): one line for each call: event number (0 for boot), number given back, records, k,
+-- mode as p or a; single spaces, a newline after each.
+use Prim.Native.Nat.{ℕ, zero, suc, _+_, _*_}
+use mathlib.Core.List.{List, [], _∷_, _++_}
+use mathlib.Core.Bool.{cond}
+use lib.ListN.{length, take, drop, replicate}
+use lib.Dec.{ltb, eqb}
+use Rattle.forms.specs.Field.{field}
+use Rattle.forms.specs.Form.{WriteTold}
+use Rattle.node.specs.Calls.{Outcome, booted, deliverOutcome}
+use Rattle.node.specs.Image.{Layout, nodeOf}
+use Rattle.log.specs.Decimal.{decimal}
+use Rattle.log.specs.Log.{countOf, eventsAt, formOf, logNumber, lay}
+
+-- a number and a space
+unfoldable pub column : ℕ → List ℕ
+column n = decimal n ++ (32 ∷ [])
+
+-- 112 is p, 97 is a, 10 a newline
+unfoldable pub line : ℕ → ℕ → ℕ → ℕ → ℕ → List ℕ
+line event number records k mode = column event ++ (column number ++ (column records ++ (column k ++ (cond (eqb mode 0) 112 97 ∷ 10 ∷ []))))
+
+-- the line of a call, with k and mode as its image has them afterwards
+unfoldable pub lineOf : ℕ → Outcome → List ℕ
+lineOf event o = line event (o .number) (o .records) (nodeOf (o .image) .tick) (nodeOf (o .image) .mode)
+
+-- the call of an event: port serial (4) and frame (8) at place i of the log
+unfoldable pub eventCall : Layout → ℕ → List ℕ → ℕ → List ℕ → List ℕ → Outcome
+eventCall L last log i image out = deliverOutcome L last image (field 4 log i) (take 8 (drop (i + 4) log)) out
+
+-- the lines of c events from place i of the log on, the first of them number e, on an image and an output
+unfoldable pub eventLines : Layout → ℕ → List ℕ → ℕ → ℕ → ℕ → List ℕ → List ℕ → List ℕ
+eventLines L last log zero i e image out = []
+eventLines L last log (suc c) i e image out =
+    lineOf e (eventCall L last log i image out)
+    ++ eventLines L last log c (i + 12) (e + 1) (eventCall L last log i image out .image) (eventCall L last log i image out .out)
+
+-- the buffers that the player lends to the calls: room for 32 rows, and for 16 records
+abbrev pub imageLent : List ℕ
+imageLent = replicate 928 0
+
+abbrev pub outLent : List ℕ
+outLent = replicate 192 0
+
+-- boot's line, and where the form is taken the lines of the events
+unfoldable pub callLines : Layout → ℕ → List ℕ → Outcome → List ℕ
+callLines L last log o =
+    lineOf 0 o ++ cond (eqb (o .number) 0) (eventLines L last log (countOf log) (eventsAt log) 1 (o .image) (o .out)) []
+
+-- a bad log has one line: 0 13 0 0 p
+unfoldable pub listing : Layout → ℕ → List ℕ → List ℕ
+listing L last log = cond (eqb (logNumber log) 0) (callLines L last log (booted L (formOf log) imageLent outLent)) (line 0 13 0 0 0)
+
+-- ---- the player: 7 where the room lent is less than 4,097 lines of 46 bytes, which every listing fits: four numbers of 32 bits
+
+abbrev pub listingRoom : ℕ
+listingRoom = 188462
+
+unfoldable pub played : Layout → ℕ → List ℕ → List ℕ → WriteTold
+played L last log out =
+    cond (ltb (length out) listingRoom) (record { number = 7; written = 0; out = out })
+    (record { number = 0; written = length (listing L last log); out = lay out 0 (listing L last log) })

@@ -1,0 +1,82 @@
+-- The log (01, "Layouts"): count of events (4), offset of the form (4, always 12), offset e of the events (4), the form from 12 to
+-- e, then 12 bytes for each event: port serial, frame. What its reader gives and what its writer leaves, for every input. Event bytes
+-- are not judged here.
+use Prim.Native.Nat.{ℕ, _+_, _-_, _*_, _/_, _%_}
+use mathlib.Core.List.{List, _++_}
+use mathlib.Core.Bool.{Bool, cond, not, _||_}
+use lib.ListN.{length, take, drop}
+use lib.Dec.{ltb, eqb}
+use Rattle.forms.specs.Field.{field, putField}
+use Rattle.forms.specs.Form.{WriteTold}
+use Rattle.log.specs.declared.file.LogRead.{LogRead}
+use Rattle.log.specs.declared.file.LogRead.the-variants.{Taken, Refused}
+use Rattle.log.specs.declared.file.LogWritten.{LogWritten}
+use Rattle.log.specs.declared.file.LogWritten.the-variants.{Wrote, Broken, NoRoom}
+
+-- ---- the fields and parts as they lie in the bytes
+
+abbrev pub countOf : List ℕ → ℕ
+countOf b = field 4 b 0
+
+abbrev pub eventsAt : List ℕ → ℕ
+eventsAt b = field 4 b 8
+
+unfoldable pub formOf : List ℕ → List ℕ
+formOf b = take (eventsAt b - 12) (drop 12 b)
+
+unfoldable pub eventsOf : List ℕ → List ℕ
+eventsOf b = drop (eventsAt b) b
+
+-- 13: not 20 ≤ e ≤ 1,012, or the form's offset not 12, or more than 4,096 events, or length not e + 12 × count
+unfoldable pub logNumber : List ℕ → ℕ
+logNumber b =
+    cond
+    (ltb (length b) 12 || not (eqb (field 4 b 4) 12) || ltb (eventsAt b) 20 || ltb 1012 (eventsAt b) || ltb 4096 (countOf b)
+    || not (eqb (length b) (eventsAt b + 12 * countOf b)))
+    13 0
+
+-- ---- the reader
+
+-- number, count of events and offset of the events; with a refusal's number every field is 0
+pub record LogTold : Type 0 where
+  pub number : ℕ
+  pub count : ℕ
+  pub events : ℕ
+
+unfoldable pub logTold : List ℕ → LogTold
+logTold b =
+    cond (eqb (logNumber b) 0) (record { number = 0; count = countOf b; events = eventsAt b })
+    (record { number = logNumber b; count = 0; events = 0 })
+
+-- what an answer of the reader says
+abbrev pub toldBy : LogRead → LogTold
+toldBy (Taken log) = record { number = 0; count = log .count; events = log .events }
+toldBy Refused = record { number = 13; count = 0; events = 0 }
+
+-- ---- the writer
+
+-- 13: form not 8 to 1,000 bytes, events not a multiple of 12 bytes, or more than 4,096
+unfoldable pub writeNumber : List ℕ → List ℕ → ℕ
+writeNumber form events =
+    cond (ltb (length form) 8 || ltb 1000 (length form) || not (eqb (length events % 12) 0) || ltb 49152 (length events)) 13 0
+
+-- bytes laid over a list from place i on; what stands behind stays
+unfoldable pub lay : List ℕ → ℕ → List ℕ → List ℕ
+lay out i bytes = take i out ++ bytes ++ drop (i + length bytes) out
+
+unfoldable pub putLog : List ℕ → List ℕ → List ℕ → List ℕ
+putLog out form events =
+    lay (lay (putField 4 (putField 4 (putField 4 out 0 (length events / 12)) 4 12) 8 (12 + length form)) 12 form) (12 + length form) events
+
+-- 13, then 7 when the output is shorter than what would be written; a refusal changes no byte
+unfoldable pub logWritten : List ℕ → List ℕ → List ℕ → WriteTold
+logWritten form events out =
+    cond (eqb (writeNumber form events) 0)
+    (cond (ltb (length out) (12 + length form + length events)) (record { number = 7; written = 0; out = out })
+    (record { number = 0; written = 12 + length form + length events; out = putLog out form events }))
+    (record { number = writeNumber form events; written = 0; out = out })
+
+abbrev pub writtenBy : LogWritten → List ℕ → WriteTold
+writtenBy (Wrote size) out = record { number = 0; written = size; out = out }
+writtenBy Broken out = record { number = 13; written = 0; out = out }
+writtenBy NoRoom out = record { number = 7; written = 0; out = out }

@@ -1,0 +1,84 @@
+/*
+ * Pebrassola: one node of a fault-tolerant clock for up to 32 controllers, of which up to f may misbehave in any way.
+ *
+ * Three calls on byte buffers that the caller owns. Nothing has to be checked before a call: every form, image, port, frame and
+ * buffer is handled, or refused with a number of enum pebrassola_number. A refusal reports no records and changes no byte.
+ *
+ * The caller's only duty: each pointer is to real memory of the stated length, and the buffers of one call do not overlap. A buffer
+ * of length 0 may have any pointer. Nothing is kept between calls: a node is its image and nothing else, so one program may run any
+ * number of nodes, and an image may be copied, stored and moved between calls. The calls use no heap and no global data.
+ *
+ * Link with libnode.a (x86-64), which `rt staticlib node` writes.
+ */
+#ifndef PEBRASSOLA_H
+#define PEBRASSOLA_H
+
+#include <stddef.h>
+#include <stdint.h>
+
+#ifdef __cplusplus
+extern "C" {
+#endif
+
+/* Bytes of a roster form and of a node image for n controllers, of a frame, of an outgoing record, and of the output to lend. */
+#define PEBRASSOLA_FORM_BYTES(n) (8u + 4u * (size_t)(n))
+#define PEBRASSOLA_IMAGE_BYTES(n) (32u + 28u * (size_t)(n))
+#define PEBRASSOLA_FRAME_BYTES 8u
+#define PEBRASSOLA_RECORD_BYTES 12u
+#define PEBRASSOLA_OUT_BYTES 192u
+#define PEBRASSOLA_MOST_CONTROLLERS 32u
+#define PEBRASSOLA_LAST_TICK 4000000000u
+
+/* The number given back; the first that applies, in the order that each call names. */
+enum pebrassola_number {
+    PEBRASSOLA_DONE = 0,         /* success */
+    PEBRASSOLA_FORM_LAYOUT = 1,  /* form shorter than 8, offset not 8, or length not 8 + 4n */
+    PEBRASSOLA_FORM_LIMITS = 2,  /* n not 1..32, or n < 3f + 1 */
+    PEBRASSOLA_FORM_ZERO = 3,    /* a serial or the own serial is 0 */
+    PEBRASSOLA_FORM_TWICE = 4,   /* a serial stands twice */
+    PEBRASSOLA_FORM_OWN = 5,     /* own serial not in the list */
+    PEBRASSOLA_IMAGE_ROOM = 6,   /* image buffer shorter than 32 + 28n */
+    PEBRASSOLA_OUT_ROOM = 7,     /* output shorter than 192 bytes */
+    PEBRASSOLA_IMAGE = 8,        /* image buffer shorter than 32 or than its stated size, or image not sound */
+    PEBRASSOLA_PORT = 9,         /* port serial not in the roster */
+    PEBRASSOLA_FRAME = 10,       /* frame not 8 long, kind not 1 or 2, or bytes 1..3 not zero */
+    PEBRASSOLA_FRAME_TICK = 11,  /* tick above the last tick */
+    PEBRASSOLA_PASSIVE = 12      /* the node is passive: it has no clock yet */
+};
+
+/* The number of a call, and how many records stand at the front of the output. */
+struct pebrassola_answer {
+    uint32_t number;
+    uint32_t records;
+};
+
+/* The number of a call, and the clock: 0 unless the number is 0. */
+struct pebrassola_reading {
+    uint32_t number;
+    uint32_t clock;
+};
+
+/*
+ * Makes a fresh node of a roster form in the image buffer: clock 0, passive, nothing held. Puts one record into the output: echo 0
+ * to all. Gives 1 to 7 in ascending order. Bytes behind the image and behind the record stay.
+ */
+struct pebrassola_answer pebrassola_boot(const uint8_t *form, size_t form_length, uint8_t *image, size_t image_length,
+                                         uint8_t *out, size_t out_length);
+
+/*
+ * Takes one frame that the wiring delivered from the controller with this serial (the port). Own broadcasts count only when the
+ * wiring delivers them back. Puts what the node has to send at the front of the output, at most 16 records: destination serial (0
+ * means all, the sender included), then a frame. Gives 7, 8, 9, 10, 11 in this order. Only mode, clock, last echo and the port's row
+ * of the image change.
+ */
+struct pebrassola_answer pebrassola_deliver(uint8_t *image, size_t image_length, uint32_t port, const uint8_t *frame,
+                                            size_t frame_length, uint8_t *out, size_t out_length);
+
+/* Reads the clock of an active node. Gives 8, then 12 while the node is passive. */
+struct pebrassola_reading pebrassola_read(const uint8_t *image, size_t image_length);
+
+#ifdef __cplusplus
+}
+#endif
+
+#endif

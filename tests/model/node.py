@@ -1,0 +1,224 @@
+#!/usr/bin/env python3
+"""Document 01 in Python, written from the paper alone and sharing nothing with the Rattle crates: evidence is a set of numbers for
+each serial and kind, and the rules are tried as the paper lists them.
+
+usage: node.py < LOG      prints the listing of a log
+
+boot, deliver and read work on byte buffers as the calls for C do; a bytearray that they are handed is the lent buffer."""
+import sys
+from collections import Counter, namedtuple
+
+LAST = 4_000_000_000  # the last tick
+WINDOW = 64
+ROOM = 192  # bytes of output that boot and deliver ask
+INIT, ECHO = 1, 2
+HEADER, ROW = 32, 28
+
+Node = namedtuple("Node", "n f own active k last")  # last: the last echo sent
+
+
+class Refused(Exception):
+    """A call's number; it is raised before anything is written."""
+
+
+def refuse_if(wrong, number):
+    if wrong:
+        raise Refused(number)
+
+
+def number(data):
+    return int.from_bytes(data, "big")
+
+
+# Layouts
+
+
+def check_roster(n, f, own, serials):
+    refuse_if(not 1 <= n <= 32 or n < 3 * f + 1, 2)
+    refuse_if(own == 0 or 0 in serials, 3)
+    refuse_if(len(set(serials)) < len(serials), 4)
+    refuse_if(own not in serials, 5)
+
+
+def read_form(form):
+    refuse_if(len(form) < 8 or number(form[2:4]) != 8 or len(form) != 8 + 4 * form[0], 1)
+    n, f, own = form[0], form[1], number(form[4:8])
+    serials = [number(form[at : at + 4]) for at in range(8, len(form), 4)]
+    check_roster(n, f, own, serials)
+    return n, f, own, serials
+
+
+def read_frame(frame):
+    refuse_if(len(frame) != 8 or frame[0] not in (INIT, ECHO) or any(frame[1:4]), 10)
+    tick = number(frame[4:8])
+    refuse_if(tick > LAST, 11)
+    return frame[0], tick
+
+
+def write_frame(kind, tick):
+    return bytes([kind, 0, 0, 0]) + tick.to_bytes(4, "big")
+
+
+def write_records(records, out):
+    """Puts (destination, kind, tick) each at the front of the output; gives their number."""
+    data = b"".join(to.to_bytes(4, "big") + write_frame(kind, tick) for to, kind, tick in records)
+    assert len(data) <= ROOM
+    out[: len(data)] = data
+    return len(records)
+
+
+def read_set(data):
+    """The set of a top and a mask, or 8 where a sound image can't hold them."""
+    top, mask = number(data[:4]), number(data[4:])
+    bits = [i for i in range(WINDOW) if mask >> i & 1]
+    refuse_if(top > LAST, 8)
+    refuse_if(mask != 0 and 0 not in bits, 8)
+    refuse_if(mask == 0 and top != 0, 8)
+    refuse_if(any(i > top for i in bits), 8)
+    return {top - i for i in bits}
+
+
+def write_set(held):
+    top = max(held, default=0)
+    return top.to_bytes(4, "big") + sum(1 << (top - t) for t in held).to_bytes(8, "big")
+
+
+def read_image(image):
+    """The node and its evidence, a dict from serial to a dict from kind to a set of ticks; 8 unless the image is sound."""
+    refuse_if(len(image) < HEADER or len(image) < number(image[18:20]), 8)
+    n, f, mode = image[0], image[1], image[2]
+    own, k, last = (number(image[at : at + 4]) for at in (4, 8, 12))
+    refuse_if(image[3] != 0 or any(image[20:32]) or mode > 1 or not last <= k <= LAST, 8)
+    refuse_if(number(image[16:18]) != HEADER or number(image[18:20]) != HEADER + ROW * n, 8)
+    rows = [image[at : at + ROW] for at in range(HEADER, HEADER + ROW * n, ROW)]
+    serials = [number(row[:4]) for row in rows]
+    try:
+        check_roster(n, f, own, serials)
+    except Refused:
+        raise Refused(8)
+    evidence = {s: {ECHO: read_set(row[4:16]), INIT: read_set(row[16:28])} for s, row in zip(serials, rows)}
+    node = Node(n, f, own, mode == 1, k, last)
+    refuse_if(next_firing(node, evidence) is not None, 8)
+    return node, evidence
+
+
+def write_image(node, evidence, image):
+    header = bytes([node.n, node.f, node.active, 0])
+    header += b"".join(x.to_bytes(4, "big") for x in (node.own, node.k, node.last))
+    header += HEADER.to_bytes(2, "big") + (HEADER + ROW * node.n).to_bytes(2, "big") + bytes(12)
+    rows = (s.to_bytes(4, "big") + write_set(sets[ECHO]) + write_set(sets[INIT]) for s, sets in evidence.items())
+    data = header + b"".join(rows)
+    image[: len(data)] = data
+
+
+# One delivery
+
+
+def credit(evidence, serial, kind, j):
+    """Adds a frame to the evidence of a serial, and cuts the set to the window."""
+    held = evidence[serial][kind]
+    held |= {t for t in (j, j - 1, j - 2) if t >= 0} if kind == ECHO else {j}
+    evidence[serial][kind] = {t for t in held if max(held) - t <= WINDOW - 1}
+
+
+def holders(evidence, kind):
+    """How many serials hold each tick of a kind."""
+    return Counter(tick for sets in evidence.values() for tick in sets[kind])
+
+
+def next_firing(node, evidence):
+    """The first rule that can fire, fired: the node that follows and the broadcasts; None where no rule can."""
+    k, some = node.k, node.f + 1
+    echo, init = holders(evidence, ECHO), holders(evidence, INIT)
+    unsent = node.last < k
+    if (init[k] >= some and unsent) or (echo[k] >= some and unsent):  # R1, R2
+        return node._replace(last=k), [(0, ECHO, k)]
+    if echo[k] >= node.n - node.f and k < LAST:  # R3
+        return node._replace(k=k + 1), [(0, INIT, k + 1)]
+    ahead = [tick for tick, serials in echo.items() if serials >= some and tick > k + 1]
+    if ahead:  # R4
+        to = max(ahead) - 1
+        return node._replace(k=to, last=to), [(0, ECHO, to)]
+    begun = [tick for tick, serials in init.items() if serials >= some]
+    if not node.active and begun:  # R5
+        to = max(max(begun) - 1, k)
+        said = [(0, ECHO, to)] if node.last < to else []
+        return node._replace(active=True, k=to, last=max(node.last, to)), said
+    return None
+
+
+def step(node, evidence, port, kind, tick):
+    """One delivery: the node that follows and its records; the evidence is changed in place."""
+    credit(evidence, port, kind, tick)
+    records = [(port, ECHO, node.last)] if (kind, tick) == (ECHO, 0) and port != node.own else []
+    while (fired := next_firing(node, evidence)) is not None:
+        node, said = fired
+        records += said
+    return node, records
+
+
+# The calls: each gives number and records, or number and clock
+
+
+def boot(form, image, out):
+    try:
+        n, f, own, serials = read_form(form)
+        refuse_if(len(image) < HEADER + ROW * n, 6)
+        refuse_if(len(out) < ROOM, 7)
+    except Refused as why:
+        return why.args[0], 0
+    write_image(Node(n, f, own, False, 0, 0), {s: {ECHO: set(), INIT: set()} for s in serials}, image)
+    return 0, write_records([(0, ECHO, 0)], out)
+
+
+def deliver(image, port, frame, out):
+    try:
+        refuse_if(len(out) < ROOM, 7)
+        node, evidence = read_image(image)
+        refuse_if(port not in evidence, 9)
+        kind, tick = read_frame(frame)
+    except Refused as why:
+        return why.args[0], 0
+    node, records = step(node, evidence, port, kind, tick)
+    write_image(node, evidence, image)
+    return 0, write_records(records, out)
+
+
+def read(image):
+    try:
+        node, _ = read_image(image)
+        refuse_if(not node.active, 12)
+    except Refused as why:
+        return why.args[0], 0
+    return 0, node.k
+
+
+# The log program
+
+
+def read_log(log):
+    """The form and the events; 13 where the layout is broken."""
+    refuse_if(len(log) < 12, 13)
+    count, form_at, events_at = (number(log[at : at + 4]) for at in (0, 4, 8))
+    refuse_if(form_at != 12 or not 20 <= events_at <= 1012 or count > 4096, 13)
+    refuse_if(len(log) != events_at + 12 * count, 13)
+    return log[12:events_at], [log[at : at + 12] for at in range(events_at, len(log), 12)]
+
+
+def listing(log):
+    try:
+        form, events = read_log(log)
+    except Refused as why:
+        return f"0 {why.args[0]} 0 0 p\n"
+    image, out = bytearray(HEADER + ROW * 32), bytearray(ROOM)
+    lines = []
+    for i in range(len(events) + 1):
+        given, records = boot(form, image, out) if i == 0 else deliver(image, number(events[i - 1][:4]), events[i - 1][4:], out)
+        lines.append(f"{i} {given} {records} {number(image[8:12])} {'pa'[image[2]]}\n")
+        if i == 0 and given != 0:
+            break
+    return "".join(lines)
+
+
+if __name__ == "__main__":
+    sys.stdout.write(listing(sys.stdin.buffer.read()))

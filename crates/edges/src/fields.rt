@@ -14,7 +14,7 @@ fn show(label: &[u8], b: &[u8], back: u64) {
     say::end();
 }
 
-pub fn run() {
+pub(crate) fn run() {
     let mut two = [0xeeu8; 4];
     put_half(&mut two, 1, 0x89ab);
     show(b"half", &two, half(&two, 1) as u64);

@@ -4,7 +4,7 @@ use forms::form::FormRead;
 use forms::form::read_form;
 use forms::form::read_serial;
 
-pub fn show(label: &[u8], b: &[u8]) {
+pub(crate) fn show(label: &[u8], b: &[u8]) {
     say::label(label);
     match read_form(b) {
         FormRead::Refused(why) => fields(why.number(), 0, 0, 0),
@@ -111,7 +111,7 @@ fn names() {
     );
 }
 
-pub fn show_serial(label: &[u8], b: &[u8], line: usize) {
+pub(crate) fn show_serial(label: &[u8], b: &[u8], line: usize) {
     say::label(label);
     say::number(read_serial(b, line) as u64);
     say::end();
@@ -134,7 +134,7 @@ fn lines() {
     );
 }
 
-pub fn run() {
+pub(crate) fn run() {
     layout();
     limits();
     zeros();

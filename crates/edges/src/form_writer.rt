@@ -118,7 +118,7 @@ fn longest() {
     form_reader::show_serial(b"serial read back", &out, 31);
 }
 
-pub fn run() {
+pub(crate) fn run() {
     room();
     faults();
     lengths();

@@ -91,7 +91,7 @@ fn room() {
     show_write(b"write frame into 9", 2, 16909060, &mut long);
 }
 
-pub fn run() {
+pub(crate) fn run() {
     ticks();
     lengths();
     shapes();

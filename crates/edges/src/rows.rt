@@ -86,7 +86,7 @@ fn greatest(b: &[u8; 112]) {
     show_greatest(b"greatest init", INIT, 3, 0, b);
 }
 
-pub fn run() {
+pub(crate) fn run() {
     let mut b = [0u8; 112];
     put_word(&mut b, 0, 11);
     put_word(&mut b, 28, 22);

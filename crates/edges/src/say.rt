@@ -1,22 +1,22 @@
 // A line of output: a label, then numbers or bytes with a space before each.
 use forms::answer::Written;
 
-pub fn label(text: &[u8]) {
+pub(crate) fn label(text: &[u8]) {
     io::write_all(1, text);
     io::write_all(1, b":");
 }
 
-pub fn number(x: u64) {
+pub(crate) fn number(x: u64) {
     io::write_all(1, b" ");
     io::print_decimal(1, x);
 }
 
-pub fn end() {
+pub(crate) fn end() {
     io::write_all(1, b"\n");
 }
 
 // A writer's number and length written.
-pub fn written(answer: Written) {
+pub(crate) fn written(answer: Written) {
     match answer {
         Written::Wrote(size) => {
             number(0);
@@ -34,7 +34,7 @@ fn pair(x: u8) {
 }
 
 // All of b in hexadecimal, so that a byte that changed shows wherever it stands.
-pub fn bytes(b: &[u8]) {
+pub(crate) fn bytes(b: &[u8]) {
     io::write_all(1, b" ");
     let mut i = 0;
     while i < b.len() {

@@ -118,7 +118,7 @@ fn images() {
     show_proper(4294967295, 18446744073709551615);
 }
 
-pub fn run() {
+pub(crate) fn run() {
     jumps();
     leaps();
     starts();

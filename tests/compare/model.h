@@ -1,0 +1,19 @@
+/* A plain model of document 01's three calls, written from the paper and sharing nothing with the Rattle code. */
+#ifndef MODEL_H
+#define MODEL_H
+
+#include <stddef.h>
+#include <stdint.h>
+
+struct model_result {
+    uint32_t number;
+    uint32_t value; /* records, or the clock */
+};
+
+struct model_result model_boot(const uint8_t *form, size_t form_length, uint8_t *image, size_t image_length, uint8_t *out,
+                               size_t out_length);
+struct model_result model_deliver(uint8_t *image, size_t image_length, uint32_t port, const uint8_t *frame, size_t frame_length,
+                                  uint8_t *out, size_t out_length);
+struct model_result model_read(const uint8_t *image, size_t image_length);
+
+#endif

@@ -14,8 +14,8 @@ FILL = 165  # what buffers hold before a call
 FOUR = bytes([4, 1, 0, 8]) + b"".join(s.to_bytes(4, "big") for s in (11, 11, 22, 33, 44))
 
 
-def fresh():
-    return bytearray([FILL] * 960), bytearray([FILL] * 200)
+def blank(length):
+    return bytearray([FILL] * length)
 
 
 # A line for each call
@@ -30,20 +30,20 @@ def put(label, call, numbers, *parts, same=None):
     print(line + ("" if same is None else " | same" if same else " | changed"))
 
 
-def boot(label, form, image, out, size):
-    old_image, old_out = bytes(image), bytes(out)
+def boot(label, form, image, size):
+    out, old_image = blank(200), bytes(image)
     given = node.boot(form, image, out)
     written = 12 * given[1]
-    same = old_image[size:] == image[size:] and old_out[written:] == out[written:]
+    same = image[size:] == old_image[size:] and out[written:] == blank(200 - written)
     put(label, "boot", given, out[:written], image[:size], same=same)
 
 
-def deliver(label, image, out, row, port, kind, tick):
-    old_image, old_out = bytes(image), bytes(out)
+def deliver(label, image, row, port, kind, tick):
+    out, old_image = blank(200), bytes(image)
     given = node.deliver(image, port, node.write_frame(kind, tick), out)
     at, written = 32 + 28 * row, 12 * given[1]
     may_change = {2, *range(8, 16), *range(at, at + 28)}
-    same = all(old_image[i] == image[i] for i in range(960) if i not in may_change) and old_out[written:] == out[written:]
+    same = all(image[i] == old_image[i] or i in may_change for i in range(960)) and out[written:] == blank(200 - written)
     put(label, "deliver", given, out[:written], image[:32], image[at : at + 28], same=same)
 
 
@@ -55,23 +55,17 @@ def show_image(label, image, size):
     print(f"{label} image{words(image[:size])}")
 
 
-def lend(call, image, size, out, room):
-    """Makes a call with the first bytes of two buffers, and puts them back."""
-    part, front = image[:size], out[:room]
-    given = call(part, front)
-    image[:size], out[:room] = part, front
-    return given
-
-
 def try_call(label, name, call, image, size, room):
-    _, out = fresh()
-    old_image, old_out = bytes(image), bytes(out)
-    given = lend(call, image, size, out, room)
-    put(label, name, given, out[: 12 * given[1]], same=old_image == image and old_out == out)
+    """Makes a call with the first bytes of an image buffer and of an output."""
+    part, front = image[:size], blank(room)
+    given = call(part, front)
+    same = part == image[:size] and front == blank(room)
+    image[:size] = part
+    put(label, name, given, front[: 12 * given[1]], same=same)
 
 
 def try_boot(label, form, size, room):
-    try_call(label, "boot", lambda image, out: node.boot(form, image, out), fresh()[0], size, room)
+    try_call(label, "boot", lambda image, out: node.boot(form, image, out), blank(960), size, room)
 
 
 def try_frame(label, image, size, room, port, frame):
@@ -85,26 +79,26 @@ def try_deliver(label, image, size, room, port, kind, tick):
 # The trials
 
 
-def story(image, out):
-    boot("W1", FOUR, image, out, 144)
-    deliver("W2", image, out, 0, 11, ECHO, 0)
-    deliver("W3", image, out, 1, 22, ECHO, 0)
-    deliver("W4", image, out, 2, 33, ECHO, 0)
+def story(image):
+    boot("W1", FOUR, image, 144)
+    deliver("W2", image, 0, 11, ECHO, 0)
+    deliver("W3", image, 1, 22, ECHO, 0)
+    deliver("W4", image, 2, 33, ECHO, 0)
     read("W4", image)
-    deliver("W5", image, out, 0, 11, INIT, 1)
-    deliver("W6", image, out, 1, 22, INIT, 1)
+    deliver("W5", image, 0, 11, INIT, 1)
+    deliver("W6", image, 1, 22, INIT, 1)
     read("W6", image)
-    deliver("W7", image, out, 3, 44, ECHO, 1)
-    deliver("W7", image, out, 2, 33, ECHO, 5)
-    deliver("W8", image, out, 1, 22, ECHO, 6)
-    deliver("W9", image, out, 3, 44, ECHO, 4)
+    deliver("W7", image, 3, 44, ECHO, 1)
+    deliver("W7", image, 2, 33, ECHO, 5)
+    deliver("W8", image, 1, 22, ECHO, 6)
+    deliver("W9", image, 3, 44, ECHO, 4)
     read("W9", image)
     show_image("W9", image, 144)
     copy, other = bytearray(image), bytearray(image)
-    deliver("W10-69", copy, out, 1, 22, ECHO, 69)
-    deliver("W10-69-7", copy, out, 1, 22, ECHO, 7)
-    deliver("W10-69-5", copy, out, 1, 22, ECHO, 5)
-    deliver("W10-70", other, out, 1, 22, ECHO, 70)
+    deliver("W10-69", copy, 1, 22, ECHO, 69)
+    deliver("W10-69-7", copy, 1, 22, ECHO, 7)
+    deliver("W10-69-5", copy, 1, 22, ECHO, 5)
+    deliver("W10-70", other, 1, 22, ECHO, 70)
 
 
 def refused(image):
@@ -209,79 +203,82 @@ def rosters():
     )
     for label, form in forms:
         try_boot(label, bytes.fromhex(form), 960, 200)
-    boot("greatest-serial", bytes.fromhex("02000008 ffffffff 01000000 ffffffff"), *fresh(), 88)
+    boot("greatest-serial", bytes.fromhex("02000008 ffffffff 01000000 ffffffff"), blank(960), 88)
 
 
 def zero():
-    image, out = fresh()
-    boot("zero", FOUR, image, out, 144)
-    start, other = bytearray(image), bytearray(image)
-    deliver("asks", image, out, 1, 22, ECHO, 0)
-    deliver("asks-again", image, out, 1, 22, ECHO, 0)
-    deliver("own", image, out, 0, 11, ECHO, 0)
+    image = blank(960)
+    boot("zero", FOUR, image, 144)
+    second, third, fourth = bytearray(image), bytearray(image), bytearray(image)
+    deliver("asks", image, 1, 22, ECHO, 0)
+    deliver("asks-again", image, 1, 22, ECHO, 0)
+    deliver("own", image, 0, 11, ECHO, 0)
     for tick in (1, 2, 64):
-        deliver(f"echo-{tick}", image, out, 1, 22, ECHO, tick)
-    deliver("below", image, out, 1, 22, ECHO, 0)
-    deliver("below-again", image, out, 1, 22, ECHO, 0)
-    deliver("init-0", image, out, 1, 22, INIT, 0)
-    deliver("order-22", start, out, 1, 22, ECHO, 1)
-    deliver("order-33", start, out, 2, 33, ECHO, 1)
-    deliver("order-44", start, out, 3, 44, ECHO, 0)
-    deliver("init-22", other, out, 1, 22, INIT, 1)
-    deliver("init-22-again", other, out, 1, 22, INIT, 1)
-    read("init-22-again", other)
-    deliver("init-0-44", other, out, 3, 44, INIT, 0)
-    deliver("init-0-33", other, out, 2, 33, INIT, 0)
-    read("init-0-33", other)
+        deliver(f"echo-{tick}", image, 1, 22, ECHO, tick)
+    deliver("below", image, 1, 22, ECHO, 0)
+    deliver("below-again", image, 1, 22, ECHO, 0)
+    deliver("init-0", image, 1, 22, INIT, 0)
+    deliver("order-22", second, 1, 22, ECHO, 1)
+    deliver("order-33", second, 2, 33, ECHO, 1)
+    deliver("order-44", second, 3, 44, ECHO, 0)
+    deliver("init-22", third, 1, 22, INIT, 1)
+    deliver("init-22-again", third, 1, 22, INIT, 1)
+    read("init-22-again", third)
+    deliver("init-0-44", third, 3, 44, INIT, 0)
+    deliver("init-0-33", third, 2, 33, INIT, 0)
+    read("init-0-33", third)
+    deliver("init-7-22", fourth, 1, 22, INIT, 7)
+    deliver("init-7-33", fourth, 2, 33, INIT, 7)
+    read("init-7-33", fourth)
 
 
 def last():
-    image, out = fresh()
-    boot("last", FOUR, image, out, 144)
+    image = blank(960)
+    boot("last", FOUR, image, 144)
     for row, port in ((1, 22), (2, 33), (3, 44), (0, 11)):
-        deliver(f"last-{port}", image, out, row, port, ECHO, LAST)
-    deliver("last-asks", image, out, 2, 33, ECHO, 0)
+        deliver(f"last-{port}", image, row, port, ECHO, LAST)
+    deliver("last-asks", image, 2, 33, ECHO, 0)
     try_deliver("last-and-1", image, 144, 192, 11, ECHO, LAST + 1)
     read("last", image)
-    deliver("last-init-22", image, out, 1, 22, INIT, LAST)
-    deliver("last-init-44", image, out, 3, 44, INIT, LAST)
+    deliver("last-init-22", image, 1, 22, INIT, LAST)
+    deliver("last-init-44", image, 3, 44, INIT, LAST)
     read("last-init-44", image)
 
 
 def small():
-    image, out = fresh()
-    boot("one", bytes.fromhex("01000008 00000007 00000007"), image, out, 60)
+    image = blank(960)
+    boot("one", bytes.fromhex("01000008 00000007 00000007"), image, 60)
     start = bytearray(image)
-    deliver("one-echo-0", image, out, 0, 7, ECHO, 0)
-    deliver("one-init-1", image, out, 0, 7, INIT, 1)
+    deliver("one-echo-0", image, 0, 7, ECHO, 0)
+    deliver("one-init-1", image, 0, 7, INIT, 1)
     read("one-init-1", image)
-    deliver("one-echo-1", image, out, 0, 7, ECHO, 1)
-    deliver("one-init-2", image, out, 0, 7, INIT, 2)
-    deliver("one-echo-2", image, out, 0, 7, ECHO, 2)
-    deliver("one-init-3", image, out, 0, 7, INIT, 3)
+    deliver("one-echo-1", image, 0, 7, ECHO, 1)
+    deliver("one-init-2", image, 0, 7, INIT, 2)
+    deliver("one-echo-2", image, 0, 7, ECHO, 2)
+    deliver("one-init-3", image, 0, 7, INIT, 3)
     read("one-init-3", image)
     show_image("one", image, 60)
     for name, kind, tick in (("init", INIT, 1), ("init", INIT, 5), ("echo", ECHO, 1), ("echo", ECHO, 4)):
-        deliver(f"most-{name}-{tick}", start, out, 0, 7, kind, tick)
+        deliver(f"most-{name}-{tick}", start, 0, 7, kind, tick)
     read("most", start)
     show_image("most", start, 60)
 
 
 def large():
-    image, out = fresh()
+    image = blank(960)
     form = bytes([32, 10, 0, 8]) + b"".join(s.to_bytes(4, "big") for s in (33, *range(64, 32, -1)))
-    boot("many", form, image, out, 928)
-    for row in range(22):
-        deliver("many-echo-0", image, out, row, 64 - row, ECHO, 0)
+    boot("many", form, image, 928)
+    for row in range(23):
+        deliver("many-echo-0", image, row, 64 - row, ECHO, 0)
     for row in range(11):
-        deliver("many-init-1", image, out, row, 64 - row, INIT, 1)
+        deliver("many-init-1", image, row, 64 - row, INIT, 1)
     read("many", image)
-    deliver("many-own", image, out, 31, 33, ECHO, 1)
+    deliver("many-own", image, 31, 33, ECHO, 1)
 
 
 def main():
-    image, out = fresh()
-    story(image, out)
+    image = blank(960)
+    story(image)
     refused(image)
     room(image)
     unsound(image)

@@ -3,7 +3,8 @@
 use crate::frame::frame_of;
 use crate::show::begin;
 use crate::show::end;
-use crate::show::kept;
+use crate::show::kept_behind;
+use crate::show::kept_but_row;
 use crate::show::kept_from;
 use crate::show::put_bar;
 use crate::show::put_hex;
@@ -21,51 +22,46 @@ fn put_records(out: &[u8; 200], records: u32) {
 }
 
 // Boots, and shows the image, whose size the caller knows.
-pub(crate) fn boot(
-    label: &[u8],
-    form: &[u8],
-    image: &mut [u8; 960],
-    out: &mut [u8; 200],
-    size: usize,
-) {
+pub(crate) fn boot(label: &[u8], form: &[u8], image: &mut [u8; 960], size: usize) {
+    let mut out = [165u8; 200];
+    let old_out = out;
     let old_image = *image;
-    let old_out = *out;
     begin(label, b"boot");
-    let answer = pebrassola_boot(form, image, out);
+    let answer = pebrassola_boot(form, image, &mut out);
     put_number(answer.number);
     put_number(answer.records);
-    put_records(out, answer.records);
+    put_records(&out, answer.records);
     put_bar();
     put_hex(image, 0, size);
     let behind = kept_from(&old_image, image, size);
-    end(kept_from(&old_out, out, 12 * (answer.records as usize)) && behind);
+    end(kept_behind(&old_out, &out, answer.records) && behind);
 }
 
 // Delivers a frame and shows records, header and the port's row.
 pub(crate) fn deliver(
     label: &[u8],
     image: &mut [u8; 960],
-    out: &mut [u8; 200],
     row: u8,
     port: u32,
     kind: u8,
     tick: u32,
 ) {
     let frame = frame_of(kind, tick);
+    let mut out = [165u8; 200];
+    let old_out = out;
     let old_image = *image;
-    let old_out = *out;
     begin(label, b"deliver");
-    let answer = pebrassola_deliver(image, port, &frame, out);
+    let answer = pebrassola_deliver(image, port, &frame, &mut out);
     put_number(answer.number);
     put_number(answer.records);
-    put_records(out, answer.records);
+    put_records(&out, answer.records);
     put_bar();
     put_hex(image, 0, 32);
     put_bar();
     let at = 32 + 28 * (row as usize);
     put_hex(image, at, at + 28);
-    let rest = kept(&old_image, image, row);
-    end(kept_from(&old_out, out, 12 * (answer.records as usize)) && rest);
+    let rest = kept_but_row(&old_image, image, row);
+    end(kept_behind(&old_out, &out, answer.records) && rest);
 }
 
 pub(crate) fn read(label: &[u8], image: &[u8]) {

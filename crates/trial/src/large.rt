@@ -14,30 +14,24 @@ fn put_serials(form: &mut [u8; 136]) {
 }
 
 // The same frame from each of the first lines.
-fn deliver_from(
-    label: &[u8],
-    image: &mut [u8; 960],
-    out: &mut [u8; 200],
-    lines: u8,
-    kind: u8,
-    tick: u32,
-) {
+fn deliver_from(label: &[u8], image: &mut [u8; 960], lines: u8, kind: u8, tick: u32) {
     let mut row: u8 = 0;
     while row < lines {
         if row < 32 {
-            deliver(label, image, out, row, 64 - (row as u32), kind, tick);
+            deliver(label, image, row, 64 - (row as u32), kind, tick);
         }
         row += 1;
     }
 }
 
-// Echo 0 from n - f = 22 lines brings the first tick, init 1 from f + 1 = 11 wakes the node.
-fn run_lines(form: &[u8; 136], image: &mut [u8; 960], out: &mut [u8; 200]) {
-    boot(b"many", form, image, out, 928);
-    deliver_from(b"many-echo-0", image, out, 22, ECHO, 0);
-    deliver_from(b"many-init-1", image, out, 11, INIT, 1);
+// Echo 0 from n - f = 22 lines brings the first tick; the next line is still answered with echo 0, the last that was sent. Init 1
+// from f + 1 = 11 lines wakes the node.
+fn run_lines(form: &[u8; 136], image: &mut [u8; 960]) {
+    boot(b"many", form, image, 928);
+    deliver_from(b"many-echo-0", image, 23, ECHO, 0);
+    deliver_from(b"many-init-1", image, 11, INIT, 1);
     read(b"many", image);
-    deliver(b"many-own", image, out, 31, 33, ECHO, 1);
+    deliver(b"many-own", image, 31, 33, ECHO, 1);
 }
 
 pub(crate) fn run() {
@@ -48,6 +42,5 @@ pub(crate) fn run() {
     form[7] = 33;
     put_serials(&mut form);
     let mut image = [165u8; 960];
-    let mut out = [165u8; 200];
-    run_lines(&form, &mut image, &mut out);
+    run_lines(&form, &mut image);
 }

@@ -16,8 +16,7 @@ mod zero;
 
 fn main() {
     let mut image = [165u8; 960];
-    let mut out = [165u8; 200];
-    story::run(&mut image, &mut out);
+    story::run(&mut image);
     refused::run(&mut image);
     room::run(&mut image);
     unsound::run(&image);

@@ -1,4 +1,4 @@
-// Forms that boot refuses with 1 to 5, and two that it takes.
+// Forms that boot refuses with 1 to 5, and one with great serials that it takes.
 use crate::call::boot;
 use crate::call::try_boot;
 use crate::frame::form_of_four;
@@ -44,27 +44,9 @@ fn run_serials() {
     try_boot(b"twins", &twins, 960, 200);
     let stranger = [2u8, 0, 0, 8, 0, 0, 0, 9, 0, 0, 0, 7, 0, 0, 0, 8];
     try_boot(b"own-unknown", &stranger, 960, 200);
-    let greatest = [
-        2u8,
-        0,
-        0,
-        8,
-        255,
-        255,
-        255,
-        255,
-        1,
-        0,
-        0,
-        0,
-        255,
-        255,
-        255,
-        255,
-    ];
+    let greatest = b"\x02\0\0\x08\xff\xff\xff\xff\x01\0\0\0\xff\xff\xff\xff";
     let mut image = [165u8; 960];
-    let mut out = [165u8; 200];
-    boot(b"greatest-serial", &greatest, &mut image, &mut out, 88);
+    boot(b"greatest-serial", greatest, &mut image, 88);
 }
 
 pub(crate) fn run() {

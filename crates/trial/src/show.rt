@@ -46,7 +46,7 @@ pub(crate) fn end(same: bool) {
 }
 
 // Whether an image buffer kept every byte but mode, k, last echo and one row.
-pub(crate) fn kept(before: &[u8; 960], after: &[u8; 960], row: u8) -> bool {
+pub(crate) fn kept_but_row(before: &[u8; 960], after: &[u8; 960], row: u8) -> bool {
     let old = &before[..];
     let new = &after[..];
     if row > 31 {
@@ -75,6 +75,11 @@ pub(crate) fn kept_from(before: &[u8], after: &[u8], from: usize) -> bool {
         return false;
     }
     check::same(&before[from..], &after[from..])
+}
+
+// Whether an output kept every byte behind its records.
+pub(crate) fn kept_behind(before: &[u8; 200], after: &[u8; 200], records: u32) -> bool {
+    kept_from(before, after, 12 * (records as usize))
 }
 
 // Whether an image buffer and an output kept every byte.

@@ -7,24 +7,24 @@ use crate::frame::ECHO;
 use crate::frame::INIT;
 
 // What the node sent comes back to it, in order.
-fn run_own(image: &mut [u8; 960], out: &mut [u8; 200]) {
-    deliver(b"one-echo-0", image, out, 0, 7, ECHO, 0);
-    deliver(b"one-init-1", image, out, 0, 7, INIT, 1);
+fn run_own(image: &mut [u8; 960]) {
+    deliver(b"one-echo-0", image, 0, 7, ECHO, 0);
+    deliver(b"one-init-1", image, 0, 7, INIT, 1);
     read(b"one-init-1", image);
-    deliver(b"one-echo-1", image, out, 0, 7, ECHO, 1);
-    deliver(b"one-init-2", image, out, 0, 7, INIT, 2);
-    deliver(b"one-echo-2", image, out, 0, 7, ECHO, 2);
-    deliver(b"one-init-3", image, out, 0, 7, INIT, 3);
+    deliver(b"one-echo-1", image, 0, 7, ECHO, 1);
+    deliver(b"one-init-2", image, 0, 7, INIT, 2);
+    deliver(b"one-echo-2", image, 0, 7, ECHO, 2);
+    deliver(b"one-init-3", image, 0, 7, INIT, 3);
     read(b"one-init-3", image);
     show_image(b"one", image, 60);
 }
 
 // Seven records, the most that one delivery can bring.
-fn run_most(image: &mut [u8; 960], out: &mut [u8; 200]) {
-    deliver(b"most-init-1", image, out, 0, 7, INIT, 1);
-    deliver(b"most-init-5", image, out, 0, 7, INIT, 5);
-    deliver(b"most-echo-1", image, out, 0, 7, ECHO, 1);
-    deliver(b"most-echo-4", image, out, 0, 7, ECHO, 4);
+fn run_most(image: &mut [u8; 960]) {
+    deliver(b"most-init-1", image, 0, 7, INIT, 1);
+    deliver(b"most-init-5", image, 0, 7, INIT, 5);
+    deliver(b"most-echo-1", image, 0, 7, ECHO, 1);
+    deliver(b"most-echo-4", image, 0, 7, ECHO, 4);
     read(b"most", image);
     show_image(b"most", image, 60);
 }
@@ -32,9 +32,8 @@ fn run_most(image: &mut [u8; 960], out: &mut [u8; 200]) {
 pub(crate) fn run() {
     let form = [1u8, 0, 0, 8, 0, 0, 0, 7, 0, 0, 0, 7];
     let mut image = [165u8; 960];
-    let mut out = [165u8; 200];
-    boot(b"one", &form, &mut image, &mut out, 60);
+    boot(b"one", &form, &mut image, 60);
     let mut fresh = image;
-    run_own(&mut image, &mut out);
-    run_most(&mut fresh, &mut out);
+    run_own(&mut image);
+    run_most(&mut fresh);
 }

@@ -6,10 +6,10 @@ use Rattle.trial.proofs.large.deliver_from.Statement.{statement}
 use Rattle.trial.proofs.large.deliver_from.Tie as tie
 
 abbrev Inv-loop : tie.InvT-loop
-Inv-loop label image₀ out₀ lines kind tick row₀ image out row = row ≤ lines
+Inv-loop label image₀ lines kind tick row₀ image row = row ≤ lines
 
 abbrev μ-loop : tie.MeasureT-loop
-μ-loop label image₀ out₀ lines kind tick row₀ image out row = lines - row
+μ-loop label image₀ lines kind tick row₀ image row = lines - row
 
 loop-holds : tie.Need-loop-holds Inv-loop μ-loop
 loop-holds c = omega arith

@@ -1,0 +1,248 @@
+/*
+ * What a call costs: nanoseconds of deliver and read at n = 4, 7 and 32 over a recorded run, beside the plain C model of
+ * tests/compare, in one run of one program, as ratios; the dearest sound image that we know for one deliver; and the deepest stack
+ * of each call, by painting the stack that it runs on. Prints the table of docs/PERFORMANCE.md.
+ */
+#define _XOPEN_SOURCE 600
+#include <stdio.h>
+#include <string.h>
+#include <time.h>
+#include <ucontext.h>
+
+#include "../tests/compare/model.h"
+#include "pebrassola.h"
+
+enum { MOST = 32, EVENTS = 4096, PLACES = 65536, PAINTED = 1 << 16 };
+
+struct event {
+    uint32_t port;
+    uint8_t frame[8];
+};
+
+typedef struct model_result deliver_call(uint8_t *, size_t, uint32_t, const uint8_t *, size_t, uint8_t *, size_t);
+typedef struct model_result read_call(const uint8_t *, size_t);
+
+static struct event events[EVENTS];
+static uint8_t fresh[PEBRASSOLA_IMAGE_BYTES(MOST)], image[sizeof fresh], out[PEBRASSOLA_OUT_BYTES];
+static volatile uint32_t sink;
+
+static struct model_result proved_deliver(uint8_t *i, size_t i_length, uint32_t port, const uint8_t *f, size_t f_length, uint8_t *o,
+                                          size_t o_length)
+{
+    struct pebrassola_answer a = pebrassola_deliver(i, i_length, port, f, f_length, o, o_length);
+    struct model_result r = {a.number, a.records};
+    return r;
+}
+
+static struct model_result proved_read(const uint8_t *i, size_t i_length)
+{
+    struct pebrassola_reading a = pebrassola_read(i, i_length);
+    struct model_result r = {a.number, a.clock};
+    return r;
+}
+
+static void put4(uint8_t *b, uint32_t v)
+{
+    for (int i = 3; i >= 0; i--, v >>= 8) b[i] = (uint8_t)v;
+}
+
+static uint32_t get4(const uint8_t *b)
+{
+    return (uint32_t)b[0] << 24 | (uint32_t)b[1] << 16 | (uint32_t)b[2] << 8 | b[3];
+}
+
+static uint32_t serial(unsigned i)
+{
+    return 1000 + 37 * i;
+}
+
+static size_t boot(unsigned n, unsigned own, uint8_t *where)
+{
+    uint8_t form[PEBRASSOLA_FORM_BYTES(MOST)] = {(uint8_t)n, (uint8_t)((n - 1) / 3), 0, 8};
+    put4(form + 4, serial(own));
+    for (unsigned i = 0; i < n; i++) put4(form + 8 + 4 * i, serial(i));
+    pebrassola_boot(form, PEBRASSOLA_FORM_BYTES(n), where, PEBRASSOLA_IMAGE_BYTES(n), out, sizeof out);
+    return PEBRASSOLA_IMAGE_BYTES(n);
+}
+
+/* ---- a recorded run: n correct nodes on a bus, what node 0 is handed */
+
+struct message {
+    unsigned from, to;
+    uint8_t frame[8];
+};
+
+static struct message bus[PLACES];
+static unsigned first, waiting;
+
+static void post(unsigned n, unsigned from, unsigned records)
+{
+    for (unsigned r = 0; r < records; r++)
+        for (unsigned to = 0; to < n; to++) {
+            struct message *m = &bus[(first + waiting) % PLACES];
+            uint32_t destination = get4(out + 12 * r);
+            if (waiting == PLACES || (destination && destination != serial(to))) continue;
+            m->from = from;
+            m->to = to;
+            memcpy(m->frame, out + 12 * r + 4, 8);
+            waiting++;
+        }
+}
+
+static void record_run(unsigned n)
+{
+    static uint8_t images[MOST][PEBRASSOLA_IMAGE_BYTES(MOST)];
+    unsigned taken = 0;
+    first = waiting = 0;
+    for (unsigned i = 0; i < n; i++) {
+        boot(n, i, images[i]);
+        post(n, i, 1);
+    }
+    while (taken < EVENTS && waiting) {
+        struct message m = bus[first];
+        first = (first + 1) % PLACES;
+        waiting--;
+        if (m.to == 0) {
+            events[taken].port = serial(m.from);
+            memcpy(events[taken++].frame, m.frame, 8);
+        }
+        post(n, m.to,
+             pebrassola_deliver(images[m.to], PEBRASSOLA_IMAGE_BYTES(n), serial(m.from), m.frame, 8, out, sizeof out).records);
+    }
+    if (taken < EVENTS) puts("the recorded run ended early");
+}
+
+/* ---- time */
+
+static double now(void)
+{
+    struct timespec t;
+    clock_gettime(CLOCK_MONOTONIC, &t);
+    return 1e9 * (double)t.tv_sec + (double)t.tv_nsec;
+}
+
+/* the least of several rounds, so that what else the machine does counts little */
+static double time_run(deliver_call *deliver, size_t size)
+{
+    double least = 1e18;
+    for (int round = 0; round < 9; round++) {
+        double start;
+        memcpy(image, fresh, size);
+        start = now();
+        for (unsigned e = 0; e < EVENTS; e++) sink += deliver(image, size, events[e].port, events[e].frame, 8, out, sizeof out).value;
+        if (now() - start < least) least = now() - start;
+    }
+    return least / EVENTS;
+}
+
+static double time_read(read_call *read, size_t size)
+{
+    double least = 1e18;
+    for (int round = 0; round < 9; round++) {
+        double start = now();
+        for (unsigned e = 0; e < EVENTS; e++) sink += read(image, size).value;
+        if (now() - start < least) least = now() - start;
+    }
+    return least / EVENTS;
+}
+
+/* f serials at most hold a tick, but every serial holds 64 of them far above k: each has to be looked at, and none suffices */
+static void make_dear(unsigned n)
+{
+    unsigned f = (n - 1) / 3;
+    boot(n, 0, fresh);
+    fresh[2] = 1;
+    for (unsigned i = 0; i < n; i++) {
+        uint8_t *row = fresh + 36 + 28 * i;
+        put4(row, 1000 + 64 * (f ? i / f : i));
+        memset(row + 4, 0xFF, 8);
+    }
+}
+
+static double time_dear(deliver_call *deliver, size_t size)
+{
+    static const uint8_t frame[8] = {1, 0, 0, 0, 0, 0, 0, 9};
+    double least = 1e18;
+    for (int round = 0; round < 99; round++) {
+        double start;
+        memcpy(image, fresh, size);
+        start = now();
+        sink += deliver(image, size, serial(0), frame, 8, out, sizeof out).number;
+        if (now() - start < least) least = now() - start;
+    }
+    return least;
+}
+
+static void row(const char *what, unsigned n, double proved, double plain)
+{
+    printf("| %s | %u | %.0f | %.0f | %.2f |\n", what, n, proved, plain, proved / plain);
+}
+
+/* ---- stack */
+
+static uint8_t painted[PAINTED];
+static ucontext_t here, there;
+static unsigned painted_n;
+
+static void call_nothing(void)
+{
+}
+
+static void call_boot(void)
+{
+    boot(painted_n, 0, image);
+}
+
+static void call_deliver(void)
+{
+    sink += pebrassola_deliver(image, PEBRASSOLA_IMAGE_BYTES(painted_n), events[0].port, events[0].frame, 8, out, sizeof out).records;
+}
+
+static void call_read(void)
+{
+    sink += pebrassola_read(image, PEBRASSOLA_IMAGE_BYTES(painted_n)).number;
+}
+
+static unsigned depth(void (*call)(void))
+{
+    unsigned low = 0;
+    memset(painted, 0xC7, sizeof painted);
+    getcontext(&there);
+    there.uc_stack.ss_sp = painted;
+    there.uc_stack.ss_size = sizeof painted;
+    there.uc_link = &here;
+    makecontext(&there, call, 0);
+    swapcontext(&here, &there);
+    while (low < PAINTED && painted[low] == 0xC7) low++;
+    return PAINTED - low;
+}
+
+int main(void)
+{
+    static const unsigned sizes[] = {4, 7, 32};
+    puts("| call | n | proved, ns | plain C, ns | ratio |\n|---|---|---|---|---|");
+    for (unsigned s = 0; s < 3; s++) {
+        unsigned n = sizes[s];
+        size_t size;
+        double proved, plain;
+        record_run(n);
+        size = boot(n, 0, fresh);
+        proved = time_run(proved_deliver, size);
+        plain = time_run(model_deliver, size);
+        row("deliver, typical", n, proved, plain);
+        proved = time_read(proved_read, size);
+        plain = time_read(model_read, size);
+        row("read", n, proved, plain);
+        make_dear(n);
+        if (proved_read(fresh, size).number) puts("the dear image is not sound");
+        proved = time_dear(proved_deliver, size);
+        plain = time_dear(model_deliver, size);
+        row("deliver, dearest", n, proved, plain);
+    }
+    painted_n = 32;
+    printf("\n| call | deepest stack, bytes |\n|---|---|\n");
+    printf("| boot (with the form's 136 bytes) | %u |\n", depth(call_boot) - depth(call_nothing));
+    printf("| deliver | %u |\n", depth(call_deliver) - depth(call_nothing));
+    printf("| read | %u |\n", depth(call_read) - depth(call_nothing));
+    return 0;
+}

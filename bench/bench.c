@@ -193,9 +193,19 @@ static void call_boot(void)
     boot(painted_n, 0, image);
 }
 
+/* the whole recorded run, from boot on */
 static void call_deliver(void)
 {
-    sink += pebrassola_deliver(image, PEBRASSOLA_IMAGE_BYTES(painted_n), events[0].port, events[0].frame, 8, out, sizeof out).records;
+    for (unsigned e = 0; e < EVENTS; e++)
+        sink += pebrassola_deliver(image, PEBRASSOLA_IMAGE_BYTES(painted_n), events[e].port, events[e].frame, 8, out, sizeof out).records;
+}
+
+/* a tick far above k from all: the node jumps */
+static void call_deliver_far(void)
+{
+    static const uint8_t frame[8] = {2, 0, 0, 0, 0, 1, 0, 0};
+    for (unsigned i = 0; i < painted_n; i++)
+        sink += pebrassola_deliver(image, PEBRASSOLA_IMAGE_BYTES(painted_n), serial(i), frame, 8, out, sizeof out).records;
 }
 
 static void call_read(void)
@@ -242,7 +252,8 @@ int main(void)
     painted_n = 32;
     printf("\n| call | deepest stack, bytes |\n|---|---|\n");
     printf("| boot (with the form's 136 bytes) | %u |\n", depth(call_boot) - depth(call_nothing));
-    printf("| deliver | %u |\n", depth(call_deliver) - depth(call_nothing));
+    printf("| deliver, over a recorded run | %u |\n", depth(call_deliver) - depth(call_nothing));
+    printf("| deliver, with a jump | %u |\n", depth(call_deliver_far) - depth(call_nothing));
     printf("| read | %u |\n", depth(call_read) - depth(call_nothing));
     return 0;
 }

@@ -146,31 +146,74 @@ static double time_read(read_call *read, size_t size)
     return least / EVENTS;
 }
 
-/* f serials at most hold a tick, but every serial holds 64 of them far above k: each has to be looked at, and none suffices */
-static void make_dear(unsigned n)
+/* ---- dear images: every serial holds many ticks far above k, and none of them is held by more than f */
+
+enum { FAMILIES = 2 * 2 * 2 * 7 };
+
+/* where a tick may be held by a row so that at most f rows hold it: by all of a group of f rows, or by f rows in turn */
+static int may_hold(unsigned n, unsigned in_turn, uint32_t tick, unsigned i)
 {
-    unsigned f = (n - 1) / 3;
-    boot(n, 0, fresh);
-    fresh[2] = 1;
-    for (unsigned i = 0; i < n; i++) {
-        uint8_t *row = fresh + 36 + 28 * i;
-        put4(row, 1000 + 64 * (f ? i / f : i));
-        memset(row + 4, 0xFF, 8);
-    }
+    return !in_turn || (tick + i) % n < (n - 1) / 3;
 }
 
-static double time_dear(deliver_call *deliver, size_t size)
+static void put_dear_set(uint8_t *set, unsigned n, unsigned in_turn, uint32_t top, unsigned i)
 {
-    static const uint8_t frame[8] = {1, 0, 0, 0, 0, 0, 0, 9};
+    uint8_t mask[8] = {0};
+    while (!may_hold(n, in_turn, top, i)) top--;
+    for (unsigned d = 0; d < 64; d++)
+        if (may_hold(n, in_turn, top - d, i)) mask[7 - d / 8] |= (uint8_t)(1 << d % 8);
+    put4(set, top);
+    memcpy(set + 4, mask, 8);
+}
+
+/* one of the families: tops a gap apart, alone or in groups of f; active, or passive with dear inits as well; the frame changes
+ * nothing, or makes the lowest tick one that f + 1 hold, so that the node jumps and searches again */
+static void make_dear(unsigned n, unsigned family, uint8_t *frame)
+{
+    static const uint32_t gaps[] = {0, 1, 31, 63, 64, 65, 100};
+    unsigned f = (n - 1) / 3, grouped = family & 1, passive = family >> 1 & 1, jumps = family >> 2 & 1;
+    uint32_t gap = gaps[family >> 3], lowest = 1000;
+    boot(n, 0, fresh);
+    fresh[2] = !passive;
+    for (unsigned i = 0; i < n; i++) {
+        uint32_t top = 1000 + gap * (grouped ? i / f : i);
+        uint8_t *row = fresh + 32 + 28 * (n - 1 - i);
+        put_dear_set(row + 4, n, gap < 64, top, i);
+        if (i == 0) lowest = get4(row + 4);
+        if (passive) put_dear_set(row + 16, n, gap < 64, top, i);
+    }
+    memset(frame, 0, 8);
+    frame[0] = jumps ? 2 : 1;
+    put4(frame + 4, jumps ? lowest : 9);
+}
+
+static double time_dear(deliver_call *deliver, size_t size, unsigned port, const uint8_t *frame)
+{
     double least = 1e18;
     for (int round = 0; round < 99; round++) {
         double start;
         memcpy(image, fresh, size);
         start = now();
-        sink += deliver(image, size, serial(0), frame, 8, out, sizeof out).number;
+        sink += deliver(image, size, port, frame, 8, out, sizeof out).number;
         if (now() - start < least) least = now() - start;
     }
     return least;
+}
+
+/* the family that is dearest for the proved calls */
+static unsigned dearest(unsigned n, size_t size)
+{
+    unsigned which = 0;
+    double most = 0;
+    for (unsigned family = 0; family < FAMILIES; family++) {
+        uint8_t frame[8];
+        double time;
+        make_dear(n, family, frame);
+        if (proved_read(fresh, size).number == PEBRASSOLA_IMAGE) continue;
+        time = time_dear(proved_deliver, size, serial(0), frame);
+        if (most < time) most = time, which = family;
+    }
+    return which;
 }
 
 static void row(const char *what, unsigned n, double proved, double plain)
@@ -234,6 +277,7 @@ int main(void)
     for (unsigned s = 0; s < 3; s++) {
         unsigned n = sizes[s];
         size_t size;
+        uint8_t frame[8];
         double proved, plain;
         record_run(n);
         size = boot(n, 0, fresh);
@@ -243,10 +287,9 @@ int main(void)
         proved = time_read(proved_read, size);
         plain = time_read(model_read, size);
         row("read", n, proved, plain);
-        make_dear(n);
-        if (proved_read(fresh, size).number) puts("the dear image is not sound");
-        proved = time_dear(proved_deliver, size);
-        plain = time_dear(model_deliver, size);
+        make_dear(n, dearest(n, size), frame);
+        proved = time_dear(proved_deliver, size, serial(0), frame);
+        plain = time_dear(model_deliver, size, serial(0), frame);
         row("deliver, dearest", n, proved, plain);
     }
     painted_n = 32;

@@ -1,27 +1,49 @@
 #!/usr/bin/env python3
 """The edges of document 01 on fields, forms, frames, sets of ticks and rows, from the paper alone: forms and frames are bytes made
-of their fields, a set of ticks is a Python set of ints. Prints what the program `edges` must print.
+of their fields, a set of ticks is a Python set of ints. CASES has the cases; this writes what the program `edges` is given, and
+what it must print.
 
-usage: tests/model/edges.py > crates/edges/stdout"""
+usage: tests/model/edges.py stdin > crates/edges/stdin
+       tests/model/edges.py stdout > crates/edges/stdout"""
+import sys
 
 WINDOW, LAST, INIT, ECHO = 64, 4_000_000_000, 1, 2
 
+# ---- the input: for each case a head, the label and the bytes that the call is given
 
-def say(label, *values):
-    print(label + ":", *values)
+CALLS = ["half", "word", "long", "form", "serial", "frame", "write form", "write frame", "none", "after", "holds", "proper", "rows", "row",
+         "holders", "greatest"]                                                       # numbered from 0
+WORDS = ["room", "count", "serial", "kind", "tick", "last", "top"]                     # of a head, 0 where a call has no use for one
+
+
+def case(call, label, answer, data=b"", value=0, **words):
+    """A case: what the program is given for it, and its line."""
+    assert set(words) <= set(WORDS)
+    text = label.encode()
+    head = word(CALLS.index(call), 2) + word(len(text), 2) + word(len(data))
+    head += b"".join(word(words.get(name, 0)) for name in WORDS) + word(value, 8)
+    return head + text + data, " ".join([label, *map(str, answer)]) + "\n"
+
+
+def word(x, size=4):
+    return x.to_bytes(size, "big")
+
+
+def words(*values):
+    return b"".join(map(word, values))
 
 
 # ---- fields: big-endian
 
-def fields():
-    for label, size, value in [("half", 2, 0x89AB), ("word", 4, 0x89ABCDEF), ("long", 8, 0xFEDCBA9876543210)]:
-        say(label, (b"\xee" + value.to_bytes(size, "big") + b"\xee").hex(), value)
+def field(call, width, value):
+    given = {"value": value} if width == 8 else {"count": value}
+    return case(call, call + ":", [(b"\xee" + word(value, width) + b"\xee").hex(), value], **given)
 
 
 # ---- forms (01, "Layouts" and "Numbers given back")
 
 def form(n, f, own, serials, offset=8):
-    return bytes([n, f]) + offset.to_bytes(2, "big") + b"".join(x.to_bytes(4, "big") for x in [own] + serials)
+    return bytes([n, f]) + word(offset, 2) + words(own, *serials)
 
 
 def roster_number(f, own, serials):
@@ -37,7 +59,7 @@ def roster_number(f, own, serials):
     return 0
 
 
-def read_form(b):
+def taken(b):
     """Number, f, own serial and serials."""
     if len(b) < 8 or b[2:4] != b"\x00\x08" or len(b) != 8 + 4 * b[0]:
         return 1, 0, 0, []
@@ -47,139 +69,51 @@ def read_form(b):
     return (number, 0, 0, []) if number else (0, b[1], own, serials)
 
 
-def write(number, made, out):
-    """A writer's end: number, length written and the output afterwards."""
-    if number == 0 and len(out) < len(made):
+def read_form(label, b):
+    number, f, own, serials = taken(b)
+    return case("form", f"form {label}:", [number, len(serials), f, own], b)
+
+
+def read_serial(label, b, line):
+    return case("serial", f"serial {label}:", (taken(b)[3][line:line + 1] or [0])[:1], b, value=line)
+
+
+def written(number, made, room):
+    """A writer's end: number, length written and the output afterwards, which was room bytes 0xee."""
+    out = b"\xee" * room
+    if number == 0 and room < len(made):
         number = 7
-    return (number, 0, out) if number else (0, len(made), made + out[len(made):])
+    return [number, 0, out.hex()] if number else [0, len(made), (made + out[len(made):]).hex()]
 
 
-def write_form(f, own, serials, out):
+def write_form(label, f, own, serials, room):
     number = roster_number(f, own, serials)
-    return write(number, b"" if number else form(len(serials), f, own, serials), out)
-
-
-def show_form(label, b):
-    number, f, own, serials = read_form(b)
-    say("form " + label, number, len(serials), f, own)
-
-
-def show_serial(label, b, line):
-    say("serial " + label, (read_form(b)[3][line:line + 1] or [0])[0])
-
-
-def form_reader():
-    show = show_form
-    one = form(1, 0, 11, [11])
-    show("empty", b"")
-    show("of 7 bytes", bytes([0, 0, 0, 8, 0, 0, 0]))
-    show("offset 9", form(1, 0, 11, [11], offset=9))
-    show("offset 0x0108", form(1, 0, 11, [11], offset=0x0108))
-    show("one byte short", one[:-1])
-    show("one byte long", one + b"\x00")
-    show("n=0", form(0, 0, 11, []))
-    show("n=1 f=0", one)
-    show("n=3 f=1", form(3, 1, 11, [11, 22, 33]))
-    for f in 1, 85, 255:
-        show(f"n=4 f={f}", form(4, f, 11, [11, 22, 33, 44]))
-    show("n=33", form(33, 0, 0, [0] * 33))
-    show("5 5 0", form(3, 0, 5, [5, 5, 0]))
-    show("0 5 5", form(3, 0, 5, [0, 5, 5]))
-    show("own 0", form(2, 0, 0, [5, 6]))
-    show("own 0 and twin", form(2, 0, 0, [5, 5]))
-    show("twin", form(3, 0, 5, [5, 6, 5]))
-    show("twin and own missing", form(2, 0, 7, [5, 5]))
-    show("own missing", form(2, 0, 7, [5, 6]))
-    show("greatest serial", form(1, 0, 2**32 - 1, [2**32 - 1]))
-    two = form(2, 0, 5, [0x01020304, 5])
-    show_serial("on line 0", two, 0)
-    show_serial("on line 1", two, 1)
-    show_serial("past the last line", two, 2)
-    show_serial("far past the last line", two, 2**64 - 1)
-    show_serial("of a refused form", form(1, 0, 5, [6]), 0)
-
-
-def form_writer():
-    def show(label, f, own, serials, room):
-        number, length, out = write_form(f, own, serials, b"\xee" * room)
-        say("write form " + label, number, length, out.hex())
-        return out[:length]
-
-    four = [11, 22, 33, 44]
-    for room in 23, 24, 25:
-        show(f"into {room}", 1, 11, four, room)
-    for f in 85, 256, 4294967295:
-        show(f"f={f}", f, 11, four, 25)
-    many = four + [5] * 256
-    show("no serial", 0, 11, [], 25)
-    show("3 serials f=1", 1, 11, four[:3], 25)
-    show("33 serials", 0, 11, many[:33], 25)
-    show("260 serials", 1, 11, many, 25)
-    show("5 5 0", 0, 5, [5, 5, 0], 20)
-    show("0 5 5", 0, 5, [0, 5, 5], 20)
-    show("own 0", 0, 0, [5, 6], 20)
-    show("twin", 0, 5, [5, 6, 5], 20)
-    show("twin and own missing", 0, 7, [5, 5], 20)
-    show("own missing", 0, 7, [5, 6], 20)
-    show("own missing into no room", 0, 7, [5, 6], 0)
-    show("into no room", 0, 5, [5, 6], 0)
-    longest = list(range(1, 32)) + [2**32 - 1]
-    back = show("32 serials", 10, 2**32 - 1, longest, 136)
-    show_form("read back", back)
-    show_serial("read back", back, 31)
+    answer = written(number, b"" if number else form(len(serials), f, own, serials), room)
+    return case("write form", f"write form {label}:", answer, words(*serials), room=room, count=f, serial=own)
 
 
 # ---- frames
 
 def frame(kind, tick, zeros=b"\x00\x00\x00"):
-    return bytes([kind]) + zeros + tick.to_bytes(4, "big")
+    return bytes([kind]) + zeros + word(tick)
 
 
 def frame_number(kind, tick):
     return 10 if kind not in (INIT, ECHO) else 11 if tick > LAST else 0
 
 
-def read_frame(b):
-    if len(b) != 8 or b[1:4] != b"\x00\x00\x00":
-        return 10, 0, 0
-    kind, tick = b[0], int.from_bytes(b[4:], "big")
-    number = frame_number(kind, tick)
-    return (number, 0, 0) if number else (0, kind, tick)
-
-
-def frames():
-    def show_read(label, b):
-        say("frame " + label, *read_frame(b))
-
-    show_read("init 0", frame(INIT, 0))
-    show_read("echo 16909060", frame(ECHO, 16909060))
-    show_read("last tick", frame(ECHO, LAST))
-    show_read("after the last tick", frame(ECHO, LAST + 1))
-    show_read("empty", b"")
-    show_read("of 7 bytes", frame(ECHO, 0)[:7])
-    show_read("of 9 bytes", frame(ECHO, 0) + b"\x00")
-    show_read("of 9 bytes with a late tick", frame(ECHO, 2**32 - 1) + b"\x00")
-    show_read("kind 0", frame(0, 0))
-    show_read("kind 3", frame(3, 0))
-    show_read("kind 3 with a late tick", frame(3, 2**32 - 1))
-    show_read("byte 1 set", frame(INIT, 0, b"\x01\x00\x00"))
-    show_read("byte 2 set", frame(INIT, 0, b"\x00\x01\x00"))
-    show_read("byte 3 set", frame(INIT, 0, b"\x00\x00\x01"))
-
-    def show_write(label, kind, tick, room):
+def read_frame(label, b):
+    number, kind, tick = 10, 0, 0
+    if len(b) == 8 and b[1:4] == b"\x00\x00\x00":
+        kind, tick = b[0], int.from_bytes(b[4:], "big")
         number = frame_number(kind, tick)
-        number, length, out = write(number, b"" if number else frame(kind, tick), b"\xee" * room)
-        say("write frame " + label, number, length, out.hex())
+    return case("frame", f"frame {label}:", [number, 0, 0] if number else [0, kind, tick], b, last=LAST)
 
-    for kind in 0, 3, 257:
-        show_write(f"kind {kind}", kind, 5, 8)
-    show_write("kind 3 with a late tick", 3, LAST + 1, 8)
-    show_write("after the last tick", INIT, LAST + 1, 8)
-    show_write("the last tick", INIT, LAST, 8)
-    show_write("into 7", ECHO, 5, 7)
-    show_write("kind 0 into 7", 0, 5, 7)
-    show_write("a late tick into 7", ECHO, LAST + 1, 7)
-    show_write("into 9", ECHO, 16909060, 9)
+
+def write_frame(label, kind, tick, room):
+    number = frame_number(kind, tick)
+    answer = written(number, b"" if number else frame(kind, tick), room)
+    return case("write frame", f"write frame {label}:", answer, room=room, kind=kind, tick=tick, last=LAST)
 
 
 # ---- sets of ticks (01, "Evidence")
@@ -203,98 +137,202 @@ def proper(top, mask):
     return 0 in held and max(held) <= top
 
 
-def sets():
-    def show(label, ticks):
-        say(label, *image(ticks))
-
-    hundred = after(set(), INIT, 100)
-    show("init 100", hundred)
-    for tick in 162, 163, 164, 165, LAST:
-        show(f"init 100, init {tick}", after(hundred, INIT, tick))
-    show(f"init 100, echo {LAST}", after(hundred, ECHO, LAST))
-    show("init 5", after(set(), INIT, 5))
-    six = after(after(set(), ECHO, 0), ECHO, 6)
-    assert after(six, ECHO, 69) == {69, 68, 67, 6} and after(six, ECHO, 70) == {70, 69, 68}      # W10
-    show("echo 0, echo 6", six)
-    show("echo 0, echo 6, echo 69", after(six, ECHO, 69))
-    show("echo 0, echo 6, echo 70", after(six, ECHO, 70))
-    show("echo 6, echo 0", after(after(set(), ECHO, 6), ECHO, 0))
-    show("none", set())
-    for tick in 0, 1, 2:
-        show(f"echo {tick}", after(set(), ECHO, tick))
-    show("init 0", after(set(), INIT, 0))
-    for tick in 39, 38, 37, 36:
-        show(f"init 100, echo {tick}", after(hundred, ECHO, tick))
-    for tick in 37, 36:
-        show(f"init 100, init {tick}", after(hundred, INIT, tick))
-    show("init 100 twice", after(hundred, INIT, 100))
-    wide = after(after(set(), INIT, 37), INIT, 100)
-    for tick in 36, 37, 38, 100, 101:
-        say(f"{{37, 100}} holds {tick}", int(tick in wide))
-    say("{} holds 0", int(0 in set()))
-    say("{0} holds 0", int(0 in after(set(), INIT, 0)))
-    for top, mask in [(0, 0), (1, 0), (0, 1), (0, 3), (5, 2), (5, 63), (5, 64), (5, 65), (62, 2**63 + 1), (63, 2**63 + 1),
-                      (2**32 - 1, 2**64 - 1)]:
-        say("proper", top, mask, "yes" if proper(top, mask) else "no")
+def show_after(label, ticks, kind, tick):
+    top, mask = image(ticks)
+    return case("after", label + ":", image(after(ticks, kind, tick)), top=top, value=mask, kind=kind, tick=tick)
 
 
-# ---- rows
+def show_holds(label, ticks, tick):
+    top, mask = image(ticks)
+    return case("holds", f"{label} holds {tick}:", [int(tick in ticks)], top=top, value=mask, tick=tick)
 
-def row_bytes(serial, echo, init):
-    b = serial.to_bytes(4, "big")
-    for ticks in echo, init:
-        top, mask = image(ticks)
-        b += top.to_bytes(4, "big") + mask.to_bytes(8, "big")
+
+def show_proper(top, mask):
+    return case("proper", f"proper: {top} {mask}", ["yes" if proper(top, mask) else "no"], top=top, value=mask)
+
+
+HUNDRED, WIDE = {100}, {37, 100}
+SIX = after(after(set(), ECHO, 0), ECHO, 6)
+assert after(SIX, ECHO, 69) == {69, 68, 67, 6} and after(SIX, ECHO, 70) == {70, 69, 68}      # W10
+
+
+# ---- rows: a dictionary of the serials, in the form's order
+
+def credited(events):
+    held = {serial: {ECHO: set(), INIT: set()} for serial in (11, 22, 33, 44)}
+    for serial, kind, tick in events:
+        if serial in held:
+            held[serial][kind] = after(held[serial][kind], kind, tick)
+    return held
+
+
+def rows(held):
+    b = b""
+    for serial, of in held.items():
+        b += word(serial)
+        for top, mask in image(of[ECHO]), image(of[INIT]):
+            b += word(top) + word(mask, 8)
     return b
 
 
-def rows():
-    held = {serial: {ECHO: set(), INIT: set()} for serial in (11, 22, 33, 44)}        # in the form's order
-
-    def show(label):
-        say(label, b"".join(row_bytes(serial, of[ECHO], of[INIT]) for serial, of in held.items()).hex())
-
-    def credit(serial, kind, tick):
-        if serial in held:
-            held[serial][kind] = after(held[serial][kind], kind, tick)
-
-    def holders(kind, tick):
-        return sum(tick in of[kind] for of in held.values())
-
-    show("rows")
-    for event in [(11, ECHO, 0), (22, ECHO, 0), (33, ECHO, 0), (11, INIT, 1), (22, INIT, 1), (44, ECHO, 1), (33, ECHO, 5),
-                  (22, ECHO, 6)]:                                                     # W2 to W8
-        credit(*event)
-    assert [of[ECHO] for of in held.values()] == [{0}, {6, 5, 4, 0}, {5, 4, 3, 0}, {1, 0}]
-    show("rows after W8")
-    for serial in 11, 22, 33, 44, 99:
-        say("row of", serial, list(held).index(serial) if serial in held else "nowhere")
-    for tick in range(8):
-        say("holders of echo", tick, holders(ECHO, tick))
-    for tick in range(2):
-        say("holders of init", tick, holders(INIT, tick))
-
-    def show_greatest(kind, m, low):
-        some = {t for of in held.values() for t in of[kind] if t >= low and holders(kind, t) >= m}
-        say("greatest " + {ECHO: "echo", INIT: "init"}[kind], m, low, max(some, default=-1) + 1)     # as tick + 1, 0 for none
-
-    for m, low in [(2, 0), (2, 3), (2, 5), (2, 6), (2, 7), (1, 0), (4, 0), (5, 0)]:
-        show_greatest(ECHO, m, low)
-    for m, low in [(1, 0), (2, 1), (3, 0)]:
-        show_greatest(INIT, m, low)
-    credit(22, INIT, 1)
-    show("rows after 22 init 1 again")
-    credit(99, ECHO, 5)
-    show("rows after 99 echo 5")
-    credit(22, ECHO, 69)
-    show("rows after 22 echo 69")
-    for tick in 6, 5:
-        say("holders of echo", tick, holders(ECHO, tick))
+def holders(held, kind, tick):
+    return sum(tick in of[kind] for of in held.values())
 
 
-fields()
-form_reader()
-form_writer()
-frames()
-sets()
-rows()
+def show_rows(label, events):
+    return case("rows", label + ":", [rows(credited(events)).hex()], b"".join(words(*event) for event in events))
+
+
+def show_row(held, serial):
+    place = list(held).index(serial) if serial in held else "nowhere"
+    return case("row", f"row of: {serial}", [place], rows(held), serial=serial)
+
+
+NAMES = {INIT: "init", ECHO: "echo"}
+
+
+def show_holders(held, kind, tick):
+    return case("holders", f"holders of {NAMES[kind]}: {tick}", [holders(held, kind, tick)], rows(held), kind=kind, tick=tick)
+
+
+def show_greatest(held, kind, m, low):
+    some = {t for of in held.values() for t in of[kind] if t >= low and holders(held, kind, t) >= m}
+    answer = max(some, default=-1) + 1                                                # as tick + 1, 0 for none
+    return case("greatest", f"greatest {NAMES[kind]}: {m} {low}", [answer], rows(held), kind=kind, count=m, value=low)
+
+
+W8 = [(11, ECHO, 0), (22, ECHO, 0), (33, ECHO, 0), (11, INIT, 1), (22, INIT, 1), (44, ECHO, 1), (33, ECHO, 5), (22, ECHO, 6)]
+AGAIN = W8 + [(22, INIT, 1)]
+STRANGER = AGAIN + [(99, ECHO, 5)]
+LEAP = STRANGER + [(22, ECHO, 69)]
+HELD = credited(W8)                                                                   # W2 to W8
+assert [of[ECHO] for of in HELD.values()] == [{0}, {6, 5, 4, 0}, {5, 4, 3, 0}, {1, 0}]
+
+
+# ---- the cases
+
+ONE, TWO = form(1, 0, 11, [11]), form(2, 0, 5, [0x01020304, 5])
+FOUR = [11, 22, 33, 44]
+MANY = FOUR + [5] * 256
+MOST = list(range(1, 32)) + [2**32 - 1]
+LONGEST = form(32, 10, 2**32 - 1, MOST)
+
+CASES = [
+    field("half", 2, 0x89AB),
+    field("word", 4, 0x89ABCDEF),
+    field("long", 8, 0xFEDCBA9876543210),
+    # 1: length and offset
+    read_form("empty", b""),
+    read_form("of 7 bytes", bytes([0, 0, 0, 8, 0, 0, 0])),
+    read_form("offset 9", form(1, 0, 11, [11], offset=9)),
+    read_form("offset 0x0108", form(1, 0, 11, [11], offset=0x0108)),
+    read_form("one byte short", ONE[:-1]),
+    read_form("one byte long", ONE + b"\x00"),
+    # 2: n and f
+    read_form("n=0", form(0, 0, 11, [])),
+    read_form("n=1 f=0", ONE),
+    read_form("n=3 f=1", form(3, 1, 11, [11, 22, 33])),
+    *(read_form(f"n=4 f={f}", form(4, f, 11, FOUR)) for f in (1, 85, 255)),
+    read_form("n=33", form(33, 0, 0, [0] * 33)),
+    # 3, in any order of lines
+    read_form("5 5 0", form(3, 0, 5, [5, 5, 0])),
+    read_form("0 5 5", form(3, 0, 5, [0, 5, 5])),
+    read_form("own 0", form(2, 0, 0, [5, 6])),
+    read_form("own 0 and twin", form(2, 0, 0, [5, 5])),
+    # 4, then 5; and the greatest serial
+    read_form("twin", form(3, 0, 5, [5, 6, 5])),
+    read_form("twin and own missing", form(2, 0, 7, [5, 5])),
+    read_form("own missing", form(2, 0, 7, [5, 6])),
+    read_form("greatest serial", form(1, 0, 2**32 - 1, [2**32 - 1])),
+    read_serial("on line 0", TWO, 0),
+    read_serial("on line 1", TWO, 1),
+    read_serial("past the last line", TWO, 2),
+    read_serial("far past the last line", TWO, 2**64 - 1),
+    read_serial("of a refused form", form(1, 0, 5, [6]), 0),
+    # 7, and bytes behind
+    *(write_form(f"into {room}", 1, 11, FOUR, room) for room in (23, 24, 25)),
+    # 2: f may be wider than a byte, and n is the length of the list. The first four of the 260 would do by themselves
+    *(write_form(f"f={f}", f, 11, FOUR, 25) for f in (85, 256, 4294967295)),
+    write_form("no serial", 0, 11, [], 25),
+    write_form("3 serials f=1", 1, 11, FOUR[:3], 25),
+    write_form("33 serials", 0, 11, MANY[:33], 25),
+    write_form("260 serials", 1, 11, MANY, 25),
+    # 3, in any order of lines; 4, then 5; 7 is last
+    write_form("5 5 0", 0, 5, [5, 5, 0], 20),
+    write_form("0 5 5", 0, 5, [0, 5, 5], 20),
+    write_form("own 0", 0, 0, [5, 6], 20),
+    write_form("twin", 0, 5, [5, 6, 5], 20),
+    write_form("twin and own missing", 0, 7, [5, 5], 20),
+    write_form("own missing", 0, 7, [5, 6], 20),
+    write_form("own missing into no room", 0, 7, [5, 6], 0),
+    write_form("into no room", 0, 5, [5, 6], 0),
+    # the longest form
+    write_form("32 serials", 10, 2**32 - 1, MOST, 136),
+    read_form("read back", LONGEST),
+    read_serial("read back", LONGEST, 31),
+    # taken frames, and 11
+    read_frame("init 0", frame(INIT, 0)),
+    read_frame("echo 16909060", frame(ECHO, 16909060)),
+    read_frame("last tick", frame(ECHO, LAST)),
+    read_frame("after the last tick", frame(ECHO, LAST + 1)),
+    # 10 for the length, the kind and bytes 1 to 3, before 11
+    read_frame("empty", b""),
+    read_frame("of 7 bytes", frame(ECHO, 0)[:7]),
+    read_frame("of 9 bytes", frame(ECHO, 0) + b"\x00"),
+    read_frame("of 9 bytes with a late tick", frame(ECHO, 2**32 - 1) + b"\x00"),
+    read_frame("kind 0", frame(0, 0)),
+    read_frame("kind 3", frame(3, 0)),
+    read_frame("kind 3 with a late tick", frame(3, 2**32 - 1)),
+    read_frame("byte 1 set", frame(INIT, 0, b"\x01\x00\x00")),
+    read_frame("byte 2 set", frame(INIT, 0, b"\x00\x01\x00")),
+    read_frame("byte 3 set", frame(INIT, 0, b"\x00\x00\x01")),
+    *(write_frame(f"kind {kind}", kind, 5, 8) for kind in (0, 3, 257)),
+    write_frame("kind 3 with a late tick", 3, LAST + 1, 8),
+    write_frame("after the last tick", INIT, LAST + 1, 8),
+    write_frame("the last tick", INIT, LAST, 8),
+    # 7, last, and the byte behind
+    write_frame("into 7", ECHO, 5, 7),
+    write_frame("kind 0 into 7", 0, 5, 7),
+    write_frame("a late tick into 7", ECHO, LAST + 1, 7),
+    write_frame("into 9", ECHO, 16909060, 9),
+    # from {100}: the old tick lies 62, 63, 64 and 65 below the new one. From the empty set the top 0 is no tick
+    show_after("init 100", set(), INIT, 100),
+    *(show_after(f"init 100, init {tick}", HUNDRED, INIT, tick) for tick in (162, 163, 164, 165, LAST)),
+    show_after(f"init 100, echo {LAST}", HUNDRED, ECHO, LAST),
+    show_after("init 5", set(), INIT, 5),
+    # W10, from the set that W8 leaves
+    show_after("echo 0, echo 6", {0}, ECHO, 6),
+    show_after("echo 0, echo 6, echo 69", SIX, ECHO, 69),
+    show_after("echo 0, echo 6, echo 70", SIX, ECHO, 70),
+    show_after("echo 6, echo 0", {6, 5, 4}, ECHO, 0),
+    # ticks below 0 are none
+    case("none", "none:", image(set())),
+    *(show_after(f"echo {tick}", set(), ECHO, tick) for tick in (0, 1, 2)),
+    show_after("init 0", set(), INIT, 0),
+    # the window of {100} reaches down to 37
+    *(show_after(f"init 100, echo {tick}", HUNDRED, ECHO, tick) for tick in (39, 38, 37, 36)),
+    *(show_after(f"init 100, init {tick}", HUNDRED, INIT, tick) for tick in (37, 36)),
+    show_after("init 100 twice", HUNDRED, INIT, 100),
+    *(show_holds("{37, 100}", WIDE, tick) for tick in (36, 37, 38, 100, 101)),
+    show_holds("{}", set(), 0),
+    show_holds("{0}", {0}, 0),
+    # sets as an image may hold them
+    *(show_proper(top, mask) for top, mask in [(0, 0), (1, 0), (0, 1), (0, 3), (5, 2), (5, 63), (5, 64), (5, 65), (62, 2**63 + 1),
+                                               (63, 2**63 + 1), (2**32 - 1, 2**64 - 1)]),
+    show_rows("rows", []),
+    show_rows("rows after W8", W8),
+    *(show_row(HELD, serial) for serial in (11, 22, 33, 44, 99)),
+    *(show_holders(HELD, ECHO, tick) for tick in range(8)),
+    *(show_holders(HELD, INIT, tick) for tick in range(2)),
+    *(show_greatest(HELD, ECHO, m, low) for m, low in [(2, 0), (2, 3), (2, 5), (2, 6), (2, 7), (1, 0), (4, 0), (5, 0)]),
+    *(show_greatest(HELD, INIT, m, low) for m, low in [(1, 0), (2, 1), (3, 0)]),
+    show_rows("rows after 22 init 1 again", AGAIN),
+    show_rows("rows after 99 echo 5", STRANGER),
+    show_rows("rows after 22 echo 69", LEAP),
+    *(show_holders(credited(LEAP), ECHO, tick) for tick in (6, 5)),
+]
+
+if sys.argv[1:] not in (["stdin"], ["stdout"]):
+    sys.exit(__doc__)
+for given, line in CASES:
+    sys.stdout.buffer.write(given if sys.argv[1] == "stdin" else line.encode())

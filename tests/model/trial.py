@@ -1,10 +1,12 @@
 #!/usr/bin/env python3
-"""What the program `trial` has to print, by the model in node.py.
+"""The steps that the program `trial` takes, and what it has to print, by the model in node.py.
 
-usage: trial.py > crates/trial/stdout
+usage: trial.py stdin > crates/trial/stdin
+       trial.py stdout > crates/trial/stdout
 
-It makes the calls of crates/trial/src in the same order, on buffers of the same length and with the same bytes in them, and shows
-them in the same form. What the calls give comes from the model alone."""
+The program keeps one image buffer and one copy of it, as this file does. Each step is written for the program and made here at once,
+on buffers of the same length and with the same bytes in them. What the calls give comes from the model alone."""
+import struct
 import sys
 
 import node
@@ -12,100 +14,144 @@ from node import ECHO, INIT, LAST
 
 FILL = 165  # what buffers hold before a call
 FOUR = bytes([4, 1, 0, 8]) + b"".join(s.to_bytes(4, "big") for s in (11, 11, 22, 33, 44))
+TEXT, BOOT, DELIVER, READ, IMAGE, PUT, SAVE, RESTORE, CLEAR = range(1, 10)  # kinds of step
 
 
 def blank(length):
     return bytearray([FILL] * length)
 
 
-# A line for each call
+stdin, stdout = bytearray(), bytearray()
+image, saved = blank(960), blank(960)
+
+
+# Steps
+
+
+def step(kind, data=b"", size=960, room=200, shown=(0, 0, 0), written=0, port=0):
+    """A head of 20 bytes: kind, length of the data, bytes lent of the image and of the output, the part of the image that is shown in
+    three places (up to the first, and from the second to the third), bytes of the output that may change, and the port; then the data."""
+    stdin.extend(struct.pack(">8HI", kind, len(data), size, room, *shown, written, port) + data)
+
+
+def put(at, data):
+    step(PUT, data, shown=(0, at, 0))
+    image[at : at + len(data)] = data
+
+
+def save():
+    step(SAVE)
+    saved[:] = image
+
+
+def restore():
+    step(RESTORE)
+    image[:] = saved
+
+
+def clear():
+    step(CLEAR)
+    image[:] = blank(960)
+
+
+def begin(label, name):
+    step(TEXT, f"{label} {name}".encode())
+    stdout.extend(f"{label} {name}".encode())
 
 
 def words(data):
     return "".join(f" {data[at : at + 4].hex()}" for at in range(0, len(data), 4))
 
 
-def put(label, call, numbers, *parts, same=None):
-    line = f"{label} {call} {numbers[0]} {numbers[1]}" + "".join(f" |{words(part)}" for part in parts)
-    print(line + ("" if same is None else " | same" if same else " | changed"))
+def call(kind, data, size, room, port, shown):
+    """Boots or delivers with the first bytes of the image buffer and of an output. Where no part of the image is shown, no byte of the
+    two may change; else the shown bytes of the image, and the records."""
+    old, out = bytes(image), blank(200)
+    part, front = image[:size], out[:room]
+    number, records = node.boot(data, part, front) if kind == BOOT else node.deliver(part, port, data, front)
+    image[:size], out[:room] = part, front
+    written = 12 * records if any(shown) else 0
+    step(kind, data, size, room, shown, written, port)
+    first, start, end = shown
+    parts = [out[: 12 * records]] + [part for part in (image[:first], image[start:end]) if part]
+    kept = image[first:start] == old[first:start] and image[end:] == old[end:] and out[written:] == blank(200 - written)
+    line = f" {number} {records}" + "".join(f" |{words(part)}" for part in parts) + (" | same\n" if kept else " | changed\n")
+    stdout.extend(line.encode())
 
 
-def boot(label, form, image, size):
-    out, old_image = blank(200), bytes(image)
-    given = node.boot(form, image, out)
-    written = 12 * given[1]
-    same = image[size:] == old_image[size:] and out[written:] == blank(200 - written)
-    put(label, "boot", given, out[:written], image[:size], same=same)
+def boot(label, form, size):
+    begin(label, "boot")
+    call(BOOT, form, 960, 200, 0, (size, size, size))
 
 
-def deliver(label, image, row, port, kind, tick):
-    out, old_image = blank(200), bytes(image)
-    given = node.deliver(image, port, node.write_frame(kind, tick), out)
-    at, written = 32 + 28 * row, 12 * given[1]
-    may_change = {2, *range(8, 16), *range(at, at + 28)}
-    same = all(image[i] == old_image[i] or i in may_change for i in range(960)) and out[written:] == blank(200 - written)
-    put(label, "deliver", given, out[:written], image[:32], image[at : at + 28], same=same)
+def deliver(label, row, port, kind, tick):
+    begin(label, "deliver")
+    at = 32 + 28 * row
+    call(DELIVER, node.write_frame(kind, tick), 960, 200, port, (32, at, at + 28))
 
 
-def read(label, image):
-    put(label, "read", node.read(image))
+def try_boot(label, form, size=960, room=200):
+    clear()
+    begin(label, "boot")
+    call(BOOT, form, size, room, 0, (0, 0, 0))
 
 
-def show_image(label, image, size):
-    print(f"{label} image{words(image[:size])}")
+def try_frame(label, port, frame, size=960, room=200):
+    begin(label, "deliver")
+    call(DELIVER, frame, size, room, port, (0, 0, 0))
 
 
-def try_call(label, name, call, image, size, room):
-    """Makes a call with the first bytes of an image buffer and of an output."""
-    part, front = image[:size], blank(room)
-    given = call(part, front)
-    same = part == image[:size] and front == blank(room)
-    image[:size] = part
-    put(label, name, given, front[: 12 * given[1]], same=same)
+def try_deliver(label, port, kind, tick, size=960, room=200):
+    try_frame(label, port, node.write_frame(kind, tick), size, room)
 
 
-def try_boot(label, form, size, room):
-    try_call(label, "boot", lambda image, out: node.boot(form, image, out), blank(960), size, room)
+def read(label, size=960):
+    begin(label, "read")
+    step(READ, size=size)
+    number, clock = node.read(image[:size])
+    stdout.extend(f" {number} {clock}\n".encode())
 
 
-def try_frame(label, image, size, room, port, frame):
-    try_call(label, "deliver", lambda image, out: node.deliver(image, port, frame, out), image, size, room)
-
-
-def try_deliver(label, image, size, room, port, kind, tick):
-    try_frame(label, image, size, room, port, node.write_frame(kind, tick))
+def show_image(label, size):
+    begin(label, "image")
+    step(IMAGE, shown=(size, 0, 0))
+    stdout.extend(f"{words(image[:size])}\n".encode())
 
 
 # The trials
 
 
-def story(image):
-    boot("W1", FOUR, image, 144)
-    deliver("W2", image, 0, 11, ECHO, 0)
-    deliver("W3", image, 1, 22, ECHO, 0)
-    deliver("W4", image, 2, 33, ECHO, 0)
-    read("W4", image)
-    deliver("W5", image, 0, 11, INIT, 1)
-    deliver("W6", image, 1, 22, INIT, 1)
-    read("W6", image)
-    deliver("W7", image, 3, 44, ECHO, 1)
-    deliver("W7", image, 2, 33, ECHO, 5)
-    deliver("W8", image, 1, 22, ECHO, 6)
-    deliver("W9", image, 3, 44, ECHO, 4)
-    read("W9", image)
-    show_image("W9", image, 144)
-    copy, other = bytearray(image), bytearray(image)
-    deliver("W10-69", copy, 1, 22, ECHO, 69)
-    deliver("W10-69-7", copy, 1, 22, ECHO, 7)
-    deliver("W10-69-5", copy, 1, 22, ECHO, 5)
-    deliver("W10-70", other, 1, 22, ECHO, 70)
+def story():
+    """W1 to W10 as one story. After echo 69 the window begins at 6: echo 7 brings 7 and 6, echo 5 nothing."""
+    boot("W1", FOUR, 144)
+    deliver("W2", 0, 11, ECHO, 0)
+    deliver("W3", 1, 22, ECHO, 0)
+    deliver("W4", 2, 33, ECHO, 0)
+    read("W4")
+    deliver("W5", 0, 11, INIT, 1)
+    deliver("W6", 1, 22, INIT, 1)
+    read("W6")
+    deliver("W7", 3, 44, ECHO, 1)
+    deliver("W7", 2, 33, ECHO, 5)
+    deliver("W8", 1, 22, ECHO, 6)
+    deliver("W9", 3, 44, ECHO, 4)
+    read("W9")
+    show_image("W9", 144)
+    save()
+    deliver("W10-69", 1, 22, ECHO, 69)
+    deliver("W10-69-7", 1, 22, ECHO, 7)
+    deliver("W10-69-5", 1, 22, ECHO, 5)
+    restore()
+    deliver("W10-70", 1, 22, ECHO, 70)
 
 
-def refused(image):
-    try_deliver("port-12", image, 960, 200, 12, ECHO, 5)
-    try_deliver("port-0", image, 960, 200, 0, ECHO, 5)
-    try_deliver("port-greatest", image, 960, 200, 2**32 - 1, ECHO, 5)
-    try_deliver("port-12-kind-3", image, 960, 200, 12, 3, 2**32 - 1)
+def refused():
+    """Deliveries that are refused with 9, 10 or 11; the image is that of W9."""
+    restore()
+    try_deliver("port-12", 12, ECHO, 5)
+    try_deliver("port-0", 0, ECHO, 5)
+    try_deliver("port-greatest", 2**32 - 1, ECHO, 5)
+    try_deliver("port-12-kind-3", 12, 3, 2**32 - 1)
     frames = (
         ("frame-of-7", "02000000000000"),
         ("frame-of-0", ""),
@@ -115,49 +161,60 @@ def refused(image):
         ("byte-3", "02000001ffffffff"),
     )
     for label, frame in frames:
-        try_frame(label, image, 960, 200, 22, bytes.fromhex(frame))
-    try_deliver("kind-0", image, 960, 200, 22, 0, 5)
-    try_deliver("kind-3", image, 960, 200, 22, 3, 2**32 - 1)
-    try_deliver("echo-too-late", image, 960, 200, 22, ECHO, LAST + 1)
-    try_deliver("init-too-late", image, 960, 200, 22, INIT, 2**32 - 1)
-    read("after-refusals", image)
+        try_frame(label, 22, bytes.fromhex(frame))
+    try_deliver("kind-0", 22, 0, 5)
+    try_deliver("kind-3", 22, 3, 2**32 - 1)
+    try_deliver("echo-too-late", 22, ECHO, LAST + 1)
+    try_deliver("init-too-late", 22, INIT, 2**32 - 1)
+    read("after-refusals")
 
 
-def room(image):
-    for label, size, room in (("out-191", 144, 191), ("out-192", 144, 192), ("image-143", 143, 200)):
-        try_boot(label, FOUR, size, room)
+def room():
+    """Buffers that are just long enough, and buffers that are not; for deliver and read the image is that of W9."""
+    try_boot("out-191", FOUR, 144, 191)
+    try_boot("out-192", FOUR, 144, 192)
+    try_boot("image-143", FOUR, 143)
     try_boot("image-143-out-191", FOUR, 143, 191)
-    try_boot("image-0", FOUR, 0, 200)
+    try_boot("image-0", FOUR, 0)
+    restore()
     for size in (0, 31, 32, 143, 144):
-        read(f"image-{size}", image[:size])
-    try_deliver("out-191", image, 144, 191, 22, ECHO, 0)
-    try_deliver("image-0-out-0", image, 0, 0, 22, ECHO, 0)
+        read(f"image-{size}", size)
+    try_deliver("out-191", 22, ECHO, 0, 144, 191)
+    try_deliver("image-0-out-0", 22, ECHO, 0, 0, 0)
     for size in (0, 31, 32, 143):
-        try_deliver(f"image-{size}", image, size, 192, 22, ECHO, 0)
-    try_deliver("out-192", bytearray(image), 144, 192, 22, ECHO, 0)
+        try_deliver(f"image-{size}", 22, ECHO, 0, size, 192)
+    try_deliver("out-192", 22, ECHO, 0, 144, 192)
 
 
-def unsound(image):
-    def judge(label, changes):
-        other = bytearray(image)
-        for at, data in changes.items():
-            other[at : at + len(data)] = data
-        read(label, other)
-        try_deliver(label, other, 960, 200, 44, ECHO, 1)
+def judge(label, changes):
+    """Tries the image of W9 with other bytes at some places, by a frame that a sound image takes without a record."""
+    restore()
+    for at, data in changes.items():
+        put(at, data)
+    read(label)
+    try_deliver(label, 44, ECHO, 1)
 
-    def with_byte(label, at, byte):
-        judge(label, {at: bytes([byte])})
 
-    def with_clock(label, k, sent):
-        judge(label, {8: k.to_bytes(4, "big") + sent.to_bytes(4, "big")})
+def with_byte(label, at, byte):
+    judge(label, {at: bytes([byte])})
 
-    def with_set(label, top, first, last):
-        judge(label, {132: top.to_bytes(4, "big") + bytes([first, 0, 0, 0, 0, 0, 0, last])})
 
+def with_clock(label, k, sent):
+    judge(label, {8: k.to_bytes(4, "big") + sent.to_bytes(4, "big")})
+
+
+def with_set(label, top, first, last):
+    """Another init set of 44, which is empty: a top and the first and last byte of the mask."""
+    judge(label, {132: top.to_bytes(4, "big") + bytes([first, 0, 0, 0, 0, 0, 0, last])})
+
+
+def unsound():
+    """Images that are not sound, made from that of W9 (k = 5, last echo 5, active), and beside them some that are."""
     header = "n-5 0 5, f-2 1 2, f-85 1 85, f-0 1 0, mode-2 2 2, byte-3 3 1, offset-33 17 33, offset-288 16 1, size-143 19 143,"
     header += "size-145 19 145, size-400 18 1, byte-20 20 1, byte-23 23 1, byte-24 24 128, byte-27 27 1, byte-28 28 1, byte-31 31 255"
     for label, at, byte in (case.split() for case in header.split(",")):
         with_byte(label, int(at), int(byte))
+    # a header that agrees with itself, of no rows and of 33
     judge("n-0", {0: b"\0\0", 19: b"\x20"})
     judge("n-33", {0: b"\x21", 18: (32 + 28 * 33).to_bytes(2, "big")})
     for label, at, byte in (("own-0", 7, 0), ("own-12", 7, 12), ("serial-0", 63, 0), ("twin-11", 63, 11), ("own-44", 7, 44)):
@@ -167,6 +224,7 @@ def unsound(image):
     with_clock("k-last", LAST, LAST)
     with_clock("k-too-late", LAST + 1, 5)
     with_clock("k-greatest", 2**32 - 1, 5)
+    # the echo set of 22 is 6, 5, 4 and 0: mask 71
     with_byte("bit-0-clear", 75, 70)
     with_byte("bit-7-of-6", 75, 199)
     with_byte("bit-63-of-6", 68, 128)
@@ -177,6 +235,7 @@ def unsound(image):
     with_set("bit-63-of-63", 63, 128, 1)
     with_set("top-last", LAST, 0, 1)
     with_set("top-too-late", LAST + 1, 0, 1)
+    # each rule in turn is the only one that could fire; for R1 the echo sets of 22 and 44 are cut to tick 0, or R4 could as well
     judge("R1", {11: b"\1", 15: b"\0", 67: b"\0", 75: b"\1", 123: b"\0", 131: b"\1"})
     with_clock("R2", 5, 4)
     with_clock("R3", 4, 4)
@@ -185,8 +244,9 @@ def unsound(image):
 
 
 def rosters():
+    """Forms that boot refuses with 1 to 5, and one with great serials that it takes. A zero counts before a twin, in either order."""
     for size in (0, 7, 23):
-        try_boot(f"form-of-{size}", FOUR[:size], 960, 200)
+        try_boot(f"form-of-{size}", FOUR[:size])
     forms = (
         ("form-of-13", "01000008 00000007 00000007 00"),
         ("offset-9", "01000009 00000007 00000007"),
@@ -202,92 +262,98 @@ def rosters():
         ("own-unknown", "02000008 00000009 00000007 00000008"),
     )
     for label, form in forms:
-        try_boot(label, bytes.fromhex(form), 960, 200)
-    boot("greatest-serial", bytes.fromhex("02000008 ffffffff 01000000 ffffffff"), blank(960), 88)
+        try_boot(label, bytes.fromhex(form))
+    boot("greatest-serial", bytes.fromhex("02000008 ffffffff 01000000 ffffffff"), 88)
 
 
 def zero():
-    image = blank(960)
-    boot("zero", FOUR, image, 144)
-    second, third, fourth = bytearray(image), bytearray(image), bytearray(image)
-    deliver("asks", image, 1, 22, ECHO, 0)
-    deliver("asks-again", image, 1, 22, ECHO, 0)
-    deliver("own", image, 0, 11, ECHO, 0)
+    """Echo 0 and its answers, a serial that says a thing twice, and the ways to wake; each on a fresh image."""
+    clear()
+    boot("zero", FOUR, 144)
+    save()
+    # each echo 0 of another serial is answered, also once it lies below that serial's window; echo 1 and 2 are not
+    deliver("asks", 1, 22, ECHO, 0)
+    deliver("asks-again", 1, 22, ECHO, 0)
+    deliver("own", 0, 11, ECHO, 0)
     for tick in (1, 2, 64):
-        deliver(f"echo-{tick}", image, 1, 22, ECHO, tick)
-    deliver("below", image, 1, 22, ECHO, 0)
-    deliver("below-again", image, 1, 22, ECHO, 0)
-    deliver("init-0", image, 1, 22, INIT, 0)
-    deliver("order-22", second, 1, 22, ECHO, 1)
-    deliver("order-33", second, 2, 33, ECHO, 1)
-    deliver("order-44", second, 3, 44, ECHO, 0)
-    deliver("init-22", third, 1, 22, INIT, 1)
-    deliver("init-22-again", third, 1, 22, INIT, 1)
-    read("init-22-again", third)
-    deliver("init-0-44", third, 3, 44, INIT, 0)
-    deliver("init-0-33", third, 2, 33, INIT, 0)
-    read("init-0-33", third)
-    deliver("init-7-22", fourth, 1, 22, INIT, 7)
-    deliver("init-7-33", fourth, 2, 33, INIT, 7)
-    read("init-7-33", fourth)
+        deliver(f"echo-{tick}", 1, 22, ECHO, tick)
+    deliver("below", 1, 22, ECHO, 0)
+    deliver("below-again", 1, 22, ECHO, 0)
+    deliver("init-0", 1, 22, INIT, 0)
+    # the answer goes first and names the last echo sent before this delivery, here 0, although echo 1 is sent in it
+    restore()
+    deliver("order-22", 1, 22, ECHO, 1)
+    deliver("order-33", 2, 33, ECHO, 1)
+    deliver("order-44", 3, 44, ECHO, 0)
+    # one serial twice is one; two serials at tick 0 wake the node, which keeps its tick 0
+    restore()
+    deliver("init-22", 1, 22, INIT, 1)
+    deliver("init-22-again", 1, 22, INIT, 1)
+    read("init-22-again")
+    deliver("init-0-44", 3, 44, INIT, 0)
+    deliver("init-0-33", 2, 33, INIT, 0)
+    read("init-0-33")
+    # two serials at tick 7 wake the node at tick 6, with its echo
+    restore()
+    deliver("init-7-22", 1, 22, INIT, 7)
+    deliver("init-7-33", 2, 33, INIT, 7)
+    read("init-7-33")
 
 
 def last():
-    image = blank(960)
-    boot("last", FOUR, image, 144)
+    """The last tick: a jump to the one before it, a tick onto it, and no further."""
+    clear()
+    boot("last", FOUR, 144)
     for row, port in ((1, 22), (2, 33), (3, 44), (0, 11)):
-        deliver(f"last-{port}", image, row, port, ECHO, LAST)
-    deliver("last-asks", image, 2, 33, ECHO, 0)
-    try_deliver("last-and-1", image, 144, 192, 11, ECHO, LAST + 1)
-    read("last", image)
-    deliver("last-init-22", image, 1, 22, INIT, LAST)
-    deliver("last-init-44", image, 3, 44, INIT, LAST)
-    read("last-init-44", image)
+        deliver(f"last-{port}", row, port, ECHO, LAST)
+    deliver("last-asks", 2, 33, ECHO, 0)
+    try_deliver("last-and-1", 11, ECHO, LAST + 1, 144, 192)
+    read("last")
+    deliver("last-init-22", 1, 22, INIT, LAST)
+    deliver("last-init-44", 3, 44, INIT, LAST)
+    read("last-init-44")
 
 
 def small():
-    image = blank(960)
-    boot("one", bytes.fromhex("01000008 00000007 00000007"), image, 60)
-    start = bytearray(image)
-    deliver("one-echo-0", image, 0, 7, ECHO, 0)
-    deliver("one-init-1", image, 0, 7, INIT, 1)
-    read("one-init-1", image)
-    deliver("one-echo-1", image, 0, 7, ECHO, 1)
-    deliver("one-init-2", image, 0, 7, INIT, 2)
-    deliver("one-echo-2", image, 0, 7, ECHO, 2)
-    deliver("one-init-3", image, 0, 7, INIT, 3)
-    read("one-init-3", image)
-    show_image("one", image, 60)
+    """n = 1, f = 0: a node that hears itself. Its clock goes on by what the wiring delivers back, never within one call by itself."""
+    clear()
+    boot("one", bytes.fromhex("01000008 00000007 00000007"), 60)
+    save()
+    for tick in (0, 1, 2):
+        deliver(f"one-echo-{tick}", 0, 7, ECHO, tick)
+        deliver(f"one-init-{tick + 1}", 0, 7, INIT, tick + 1)
+        if tick != 1:
+            read(f"one-init-{tick + 1}")
+    show_image("one", 60)
+    # seven records, the most that one delivery can bring
+    restore()
     for name, kind, tick in (("init", INIT, 1), ("init", INIT, 5), ("echo", ECHO, 1), ("echo", ECHO, 4)):
-        deliver(f"most-{name}-{tick}", start, 0, 7, kind, tick)
-    read("most", start)
-    show_image("most", start, 60)
+        deliver(f"most-{name}-{tick}", 0, 7, kind, tick)
+    read("most")
+    show_image("most", 60)
 
 
 def large():
-    image = blank(960)
+    """n = 32, f = 10, own serial 33 on line 31. Echo 0 from n - f = 22 lines brings the first tick; the next line is still answered with
+    echo 0, the last that was sent. Init 1 from f + 1 = 11 lines wakes the node."""
+    clear()
     form = bytes([32, 10, 0, 8]) + b"".join(s.to_bytes(4, "big") for s in (33, *range(64, 32, -1)))
-    boot("many", form, image, 928)
+    boot("many", form, 928)
     for row in range(23):
-        deliver("many-echo-0", image, row, 64 - row, ECHO, 0)
+        deliver("many-echo-0", row, 64 - row, ECHO, 0)
     for row in range(11):
-        deliver("many-init-1", image, row, 64 - row, INIT, 1)
-    read("many", image)
-    deliver("many-own", image, 31, 33, ECHO, 1)
+        deliver("many-init-1", row, 64 - row, INIT, 1)
+    read("many")
+    deliver("many-own", 31, 33, ECHO, 1)
 
 
 def main():
-    image = blank(960)
-    story(image)
-    refused(image)
-    room(image)
-    unsound(image)
-    rosters()
-    zero()
-    last()
-    small()
-    large()
+    if sys.argv[1:] not in (["stdin"], ["stdout"]):
+        sys.exit(__doc__)
+    for trial in (story, refused, room, unsound, rosters, zero, last, small, large):
+        trial()
+    sys.stdout.buffer.write(stdin if sys.argv[1] == "stdin" else stdout)
 
 
 if __name__ == "__main__":
-    sys.exit(main())
+    main()

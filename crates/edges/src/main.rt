@@ -1,18 +1,27 @@
-// Runs the edges of document 01 that concern fields, forms, frames, sets of ticks and rows, and prints a line for each: a label, then
-// what came back. tests/model/edges.py, written from the paper alone, prints the same lines; they are this crate's `stdout`.
-mod fields;
-mod form_reader;
-mod form_writer;
-mod frames;
-mod rows;
+// Runs the cases on standard input and prints a line for each: its label, then what came back.
+mod case;
+mod field;
+mod read;
+mod row;
 mod say;
-mod sets;
+mod set;
+mod write;
+
+// Runs one case after the other, up to the first that is cut short.
+fn run_all(b: &[u8]) {
+    let mut at = 0;
+    while at < b.len() {
+        let used = case::run(&b[at..]);
+        if used == 0 {
+            say::bad();
+            return;
+        }
+        at += used;
+    }
+}
 
 fn main() {
-    fields::run();
-    form_reader::run();
-    form_writer::run();
-    frames::run();
-    sets::run();
-    rows::run();
+    let mut b = io::large_buffer();
+    let size = io::read_full(0, &mut b);
+    run_all(&b[..size]);
 }

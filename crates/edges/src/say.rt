@@ -1,36 +1,22 @@
-// A line of output: a label, then numbers or bytes with a space before each.
+// What a line of output is made of.
 use forms::answer::Written;
-
-pub(crate) fn label(text: &[u8]) {
-    io::write_all(1, text);
-    io::write_all(1, b":");
-}
 
 pub(crate) fn number(x: u64) {
     io::write_all(1, b" ");
     io::print_decimal(1, x);
 }
 
+pub(crate) fn pair(x: u32, y: u32) {
+    number(x as u64);
+    number(y as u64);
+}
+
 pub(crate) fn end() {
     io::write_all(1, b"\n");
 }
 
-// A writer's number and length written.
-pub(crate) fn written(answer: Written) {
-    match answer {
-        Written::Wrote(size) => {
-            number(0);
-            number(size as u64);
-        }
-        Written::NotWritten(why) => {
-            number(why.number() as u64);
-            number(0);
-        }
-    }
-}
-
-fn pair(x: u8) {
-    io::print_hex(1, x as u64, 2);
+pub(crate) fn bad() {
+    io::write_all(1, b"bad case\n");
 }
 
 // All of b in hexadecimal, so that a byte that changed shows wherever it stands.
@@ -38,7 +24,19 @@ pub(crate) fn bytes(b: &[u8]) {
     io::write_all(1, b" ");
     let mut i = 0;
     while i < b.len() {
-        pair(b[i]);
+        io::print_hex(1, b[i] as u64, 2);
         i += 1;
     }
+}
+
+// What a writer answered: number, length written, and the output as it left it.
+pub(crate) fn written(answer: Written, out: &[u8]) {
+    match answer {
+        Written::Wrote(size) => {
+            number(0);
+            number(size as u64);
+        }
+        Written::NotWritten(why) => pair(why.number(), 0),
+    }
+    bytes(out);
 }

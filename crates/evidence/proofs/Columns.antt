@@ -1,34 +1,24 @@
--- Laws of the loops over rows, one row at a time: holders counted, the place of a serial, the best tick so far.
+-- Laws of the loops over rows, one row at a time: holders counted, the place of a serial.
 -- Assumes nothing.
-use mathlib.Core.Path.{_≡_, refl, sym, ap, _∙_, subst}
+use mathlib.Core.Path.{_≡_, refl, ap, ap₂, _∙_}
 use mathlib.Core.Bool.{true, cond, _&&_}
 use mathlib.Core.List.{List, [], _∷_}
 use Prim.Native.Nat.{ℕ, zero, suc, _+_, _-_, _^_, _≤_, _<_, max}
 use native.Mathlib.Omega.{arith}
 use lib.Dec.{eqb}
-use Rattle.forms.specs.Field.{field, Bytes}
-use Rattle.forms.proofs.Fields.{field-lt}
-use Rattle.evidence.specs.Ticks.{Held, holds}
+use Rattle.fields.specs.Field.{field, Bytes}
+use Rattle.fields.proofs.Fields.{field-lt}
+use Rattle.sets.specs.Ticks.{Held, holds}
 use Rattle.evidence.specs.Rows.{Row, rowSize, setOf, setPlace, setAt, rowAt, rowsAt, properSet, properRows}
-use Rattle.evidence.specs.Holders.{holders, shared, bestOf, bestAmong, oneOn, placeOf}
-use Rattle.evidence.proofs.Down.{down-le}
+use Rattle.evidence.specs.Holders.{holders, oneOn, placeOf}
+use Rattle.sets.proofs.Members.{holds-above}
 use Rattle.evidence.proofs.Layouts.{rows-down, set-of-row}
-
-set-top : (mb : ℕ) (b : List ℕ) (p : ℕ) → Bytes b → setAt mb b p .top < 2 ^ 32
-unfolding setAt
-set-top mb b p h = field-lt 4 b p h
 
 module _ (mb n : ℕ) (b : List ℕ) (i : ℕ) where
   pub holders-down : (w kind t : ℕ) → 0 < n → holders w kind t (rowsAt mb n b i) ≡ holds w (setAt mb b (i + setPlace mb kind)) t + holders w kind t (rowsAt mb (n - 1) b (i + rowSize mb))
   unfolding holders
   holders-down w kind t p =
       ap (holders w kind t) (rows-down mb n b i p) ∙ ap (λ (s : Held). holds w s t + holders w kind t (rowsAt mb (n - 1) b (i + rowSize mb))) (set-of-row mb kind b i)
-
-  pub among-down : (w kind m low : ℕ) (all : List Row) → 0 < n → bestAmong w kind m low all (rowsAt mb n b i) ≡ max (bestOf w kind m low all (setAt mb b (i + setPlace mb kind))) (bestAmong w kind m low all (rowsAt mb (n - 1) b (i + rowSize mb)))
-  unfolding bestAmong
-  among-down w kind m low all p =
-      ap (bestAmong w kind m low all) (rows-down mb n b i p)
-      ∙ ap (λ (s : Held). max (bestOf w kind m low all s) (bestAmong w kind m low all (rowsAt mb (n - 1) b (i + rowSize mb)))) (set-of-row mb kind b i)
 
   pub proper-down : (w last : ℕ) → 0 < n → properRows w last (rowsAt mb n b i) ≡ (properSet w last (setAt mb b (i + 4)) && (properSet w last (setAt mb b (i + (8 + mb))) && properRows w last (rowsAt mb (n - 1) b (i + rowSize mb))))
   unfolding properRows rowAt
@@ -37,24 +27,6 @@ module _ (mb n : ℕ) (b : List ℕ) (i : ℕ) where
   pub place-down : (serial : ℕ) → 0 < n → placeOf serial (rowsAt mb n b i) ≡ cond (eqb (field 4 b i) serial) 1 (oneOn (placeOf serial (rowsAt mb (n - 1) b (i + rowSize mb))))
   unfolding placeOf rowAt
   place-down serial p = ap (placeOf serial) (rows-down mb n b i p)
-
--- a tick found is a number of 4 bytes, so tick + 1 is at most 2 ^ 32
-pub among-le : (w kind m low : ℕ) (all : List Row) (mb n : ℕ) (b : List ℕ) (i : ℕ) → Bytes b → bestAmong w kind m low all (rowsAt mb n b i) ≤ 2 ^ 32
-unfolding bestAmong bestOf rowsAt
-among-le w kind m low all mb zero b i h = omega arith
-among-le w kind m low all mb (suc n) b i h =
-    omega (
-      arith,
-      among-le w kind m low all mb n b (i + rowSize mb) h,
-      down-le (shared w kind m all (setOf kind (rowAt mb b i))) low w (setOf kind (rowAt mb b i) .top + 1),
-      top-lt,
-    )
-  where
-    top-lt : setOf kind (rowAt mb b i) .top < 2 ^ 32
-    top-lt = subst (λ (s : Held). s .top < 2 ^ 32) (sym (set-of-row mb kind b i)) (at (i + setPlace mb kind))
-      where
-        at : (p : ℕ) → setAt mb b p .top < 2 ^ 32
-        at p = set-top mb b p h
 
 -- no rows are left
 none-left : (mb n : ℕ) (b : List ℕ) (i : ℕ) → n ≡ 0 → rowsAt mb n b i ≡ []
@@ -66,13 +38,24 @@ pub holders-end : (w kind t mb n : ℕ) (b : List ℕ) (i : ℕ) → n ≡ 0 →
 unfolding holders
 holders-end w kind t mb n b i e = ap (holders w kind t) (none-left mb n b i e)
 
+top-lt : (mb : ℕ) (b : List ℕ) (p : ℕ) → Bytes b → setAt mb b p .top < 2 ^ 32
+unfolding setAt
+top-lt mb b p h = field-lt 4 b p h
+
+-- no row holds a tick that is no number of 4 bytes
+pub holders-far : (w kind t mb n : ℕ) (b : List ℕ) (i : ℕ) → Bytes b → 2 ^ 32 ≤ t → holders w kind t (rowsAt mb n b i) ≡ 0
+holders-far w kind t mb zero b i h p = holders-end w kind t mb 0 b i refl
+holders-far w kind t mb (suc n) b i h p =
+    holders-down mb (suc n) b i w kind t (omega arith)
+    ∙ ap₂ (λ (x y : ℕ). x + y) (holds-above w (setAt mb b (i + setPlace mb kind)) t (omega (arith, p, top-lt mb b (i + setPlace mb kind) h)))
+    (ap (λ (m : ℕ). holders w kind t (rowsAt mb m b (i + rowSize mb))) (less n) ∙ holders-far w kind t mb n b (i + rowSize mb) h p)
+  where
+    less : (n : ℕ) → suc n - 1 ≡ n
+    less n = omega arith
+
 pub proper-end : (w last mb n : ℕ) (b : List ℕ) (i : ℕ) → n ≡ 0 → properRows w last (rowsAt mb n b i) ≡ true
 unfolding properRows
 proper-end w last mb n b i e = ap (properRows w last) (none-left mb n b i e)
-
-pub among-end : (w kind m low : ℕ) (all : List Row) (mb n : ℕ) (b : List ℕ) (i : ℕ) → n ≡ 0 → bestAmong w kind m low all (rowsAt mb n b i) ≡ 0
-unfolding bestAmong
-among-end w kind m low all mb n b i e = ap (bestAmong w kind m low all) (none-left mb n b i e)
 
 pub place-end : (serial mb n : ℕ) (b : List ℕ) (i : ℕ) → n ≡ 0 → placeOf serial (rowsAt mb n b i) ≡ 0
 unfolding placeOf

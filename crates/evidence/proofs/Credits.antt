@@ -10,10 +10,10 @@ use native.Mathlib.Omega.{arith}
 use borrow.Author.Tests.{eqb-true}
 use lib.ListN.{length, getD}
 use lib.Dec.{eqb}
-use Rattle.forms.specs.Field.{field, putField, words, Bytes}
+use Rattle.fields.specs.Field.{field, putField, words, Bytes}
 use Rattle.forms.specs.Roster.{count}
-use Rattle.forms.proofs.Fields.{field-same, put-field}
-use Rattle.evidence.specs.Ticks.{Held, add}
+use Rattle.fields.proofs.Fields.{field-same, put-field}
+use Rattle.sets.specs.Ticks.{Held, add}
 use Rattle.evidence.specs.Rows.{Row, rowSize, setPlace, setAt, rowAt, rowsAt, putSet, putRow, putRows, creditRow, creditOf, credit}
 use Rattle.evidence.specs.Holders.{oneOn, placeOf}
 use Rattle.evidence.proofs.Layouts.{bytes-putSet, getD-putSet-other, rows-same, put-set, put-row, put-rows}

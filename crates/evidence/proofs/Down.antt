@@ -1,4 +1,4 @@
--- Laws of the search for the greatest tick: one step of it, its range, and that a search may start from the best so far.
+-- Laws of the search for the greatest tick: one step of it, and its range.
 -- Assumes nothing.
 use mathlib.Core.Path.{_≡_, refl, sym, ap, _∙_, subst}
 use mathlib.Core.Logic.{_⊎_, inl, inr}
@@ -9,7 +9,7 @@ use native.Mathlib.Decide.{decLe}
 use native.Mathlib.Omega.{arith}
 use borrow.Author.Tests.{le-leb, lt-leb}
 use lib.Dec.{leb}
-use Rattle.evidence.specs.Ticks.{Held}
+use Rattle.sets.specs.Ticks.{Held}
 use Rattle.evidence.specs.Rows.{Row, setOf}
 use Rattle.evidence.specs.Holders.{firstDown, bestOf, bestAmong}
 
@@ -43,16 +43,6 @@ module _ (passes : ℕ → Bool) where
       less : (n : ℕ) → n ≡ suc n - 1
       less n = omega arith
 
-  pub down-le : (low c x : ℕ) → firstDown passes low c x ≤ x
-  unfolding firstDown
-  down-le low zero x = omega arith
-  down-le low (suc c) x = go (leb x low) (passes (x - 1)) (down-le low c (x - 1))
-    where
-      go : (a b : Bool) → firstDown passes low c (x - 1) ≤ x - 1 → cond a 0 (cond b x (firstDown passes low c (x - 1))) ≤ x
-      go true b h = omega arith
-      go false true h = omega arith
-      go false false h = omega arith
-
   -- what is found is above low
   pub down-above : (low c x : ℕ) → (firstDown passes low c x ≡ 0) ⊎ (low < firstDown passes low c x)
   down-above low zero x = inl (down-none low x)
@@ -63,24 +53,9 @@ module _ (passes : ℕ → Bool) where
       go (no p) true e h = inr (subst (λ (y : ℕ). low < y) (sym (down-hit low (suc c) x (omega arith) (omega arith) e)) (omega arith))
       go (no p) false e h = subst (λ (y : ℕ). (y ≡ 0) ⊎ (low < y)) (sym (down-suc low c x (omega arith) e)) h
 
-  -- to search from the best so far finds what a search from below would, where that is better
-  pub down-raise : (low best c x : ℕ) → low ≤ best → max best (firstDown passes best c x) ≡ max best (firstDown passes low c x)
-  down-raise low best zero x l = ap (max best) (down-none best x ∙ sym (down-none low x))
-  down-raise low best (suc c) x l = go (decLe x best) (decLe x low) (passes (x - 1)) refl (down-raise low best c (x - 1) l)
-    where
-      go : Dec (x ≤ best) → Dec (x ≤ low) → (b : Bool) → passes (x - 1) ≡ b → max best (firstDown passes best c (x - 1)) ≡ max best (firstDown passes low c (x - 1)) → max best (firstDown passes best (suc c) x) ≡ max best (firstDown passes low (suc c) x)
-      go (yes p) d b e h = omega (arith, down-end best (suc c) x p, down-le low (suc c) x)
-      go (no p) (yes q) b e h = absurd (omega arith)
-      go (no p) (no q) true e h = ap (max best) (down-hit best (suc c) x (omega arith) (omega arith) e ∙ sym (down-hit low (suc c) x (omega arith) (omega arith) e))
-      go (no p) (no q) false e h = ap (max best) (down-suc best c x (omega arith) e) ∙ h ∙ ap (max best) (sym (down-suc low c x (omega arith) e))
-
 -- ---- over rows
 
 module _ (w kind m : ℕ) (all : List Row) where
-  pub best-raise : (low best : ℕ) (s : Held) → low ≤ best → max best (bestOf w kind m best all s) ≡ max best (bestOf w kind m low all s)
-  unfolding bestOf
-  best-raise low best s l = down-raise _ low best w (s .top + 1) l
-
   pub among-above : (low : ℕ) (rows : List Row) → (bestAmong w kind m low all rows ≡ 0) ⊎ (low < bestAmong w kind m low all rows)
   unfolding bestAmong bestOf
   among-above low [] = inl refl

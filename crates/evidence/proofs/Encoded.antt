@@ -10,13 +10,13 @@ use native.Mathlib.Omega.{arith}
 use lib.ListN.{length, getD}
 use lib.Dec.{eqb, lit<}
 use lib.Pow.{pow-mono}
-use Rattle.forms.specs.Field.{field, putField, Bytes}
-use Rattle.forms.proofs.Fields.{field-same, field-lt, field-put, field-put-other, length-put, bytes-put, getD-put-other}
-use Rattle.evidence.specs.Ticks.{Held, insert, insertAll, run, added, add, raised, marked}
+use Rattle.fields.specs.Field.{field, putField, Bytes}
+use Rattle.fields.proofs.Fields.{field-same, field-lt, field-put, field-put-other, length-put, bytes-put, getD-put-other}
+use Rattle.sets.specs.Ticks.{Held, insert, insertAll, run, added, add, raised, marked}
 use Rattle.evidence.specs.Rows.{Row, rowSize, setAt, rowAt, rowsAt, putSet, putRow, putRows, creditRow, creditOf, credit}
 use Rattle.evidence.proofs.Layouts.{length-putSet, bytes-putSet, getD-putSet-other, row-same, length-rows}
-use Rattle.evidence.proofs.Masks.{raised-lt, marked-lt}
-use Rattle.evidence.proofs.Members.{Insertion, insertion, insert-near, insert-far, insert-in, insert-late}
+use Rattle.sets.proofs.Masks.{raised-lt, marked-lt}
+use Rattle.sets.proofs.Members.{Insertion, insertion, insert-near, insert-far, insert-in, insert-late}
 
 -- a set, a row and rows whose numbers fit their fields
 pub record SetFits (mb : ℕ) (s : Held) : Type 0 where

@@ -9,10 +9,10 @@ use native.Mathlib.Decide.{decLt, ℕ-discrete}
 use native.Mathlib.Omega.{arith}
 use borrow.Author.Tests.{le-leb, eq-eqb, leb-true, leb-false, eqb-true}
 use lib.Dec.{leb, eqb}
-use Rattle.evidence.specs.Ticks.{Held, holds}
+use Rattle.sets.specs.Ticks.{Held, holds}
 use Rattle.evidence.specs.Rows.{Row, setOf}
 use Rattle.evidence.specs.Holders.{holders, firstDown, bestOf, bestAmong, greatest}
-use Rattle.evidence.proofs.Members.{Place, above, below, inside, place, holds-above, holds-below, holds-le}
+use Rattle.sets.proofs.Members.{Place, above, below, inside, place, holds-above, holds-below, holds-le}
 
 -- ---- a search downwards
 
@@ -43,7 +43,7 @@ module _ (passes : ℕ → Bool) (low : ℕ) where
           never d = let z : _≡_ {A = ℕ} 0 1 = cc in omega arith
 
 -- a set holds a tick only inside the window below its top
-held-place : (w : ℕ) (s : Held) (t : ℕ) → holds w s t ≡ 1 → (t ≤ s .top) × (s .top < t + w)
+pub held-place : (w : ℕ) (s : Held) (t : ℕ) → holds w s t ≡ 1 → (t ≤ s .top) × (s .top < t + w)
 held-place w s t e = go (place w s t)
   where
     go : Place w s t → (t ≤ s .top) × (s .top < t + w)
@@ -55,7 +55,7 @@ module _ (w kind m low : ℕ) where
   module _ (all : List Row) (t : ℕ) where
     -- ---- of one set
 
-    best-held : (s : Held) → bestOf w kind m low all s ≡ suc t → (low ≤ t) × (m ≤ holders w kind t all) × (holds w s t ≡ 1)
+    pub best-held : (s : Held) → bestOf w kind m low all s ≡ suc t → (low ≤ t) × (m ≤ holders w kind t all) × (holds w s t ≡ 1)
     unfolding bestOf
     best-held s e =
         let found = down-passes _ low w (s .top + 1) t e in
@@ -63,7 +63,7 @@ module _ (w kind m low : ℕ) where
         (found .0, leb-true _ _ (both .1), eqb-true _ _ (both .0))
 
     -- the search starts at the top, so it comes by every tick that the set holds
-    best-most : (s : Held) → low ≤ t → m ≤ holders w kind t all → holds w s t ≡ 1 → t < bestOf w kind m low all s
+    pub best-most : (s : Held) → low ≤ t → m ≤ holders w kind t all → holds w s t ≡ 1 → t < bestOf w kind m low all s
     unfolding bestOf
     best-most s l p e =
         let near = held-place w s t e in

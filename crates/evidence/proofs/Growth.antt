@@ -13,10 +13,10 @@ use native.Mathlib.Omega.{arith}
 use borrow.Author.Tests.{leb-true, le-leb, lt-ltb, eq-eqb, ne-eqb}
 use lib.Dec.{ltb, leb, eqb}
 use lib.Pow.{pow-pos}
-use Rattle.evidence.specs.Ticks.{Held, holds, insert, insertAll, run, added, add, proper}
+use Rattle.sets.specs.Ticks.{Held, holds, insert, insertAll, run, added, add, proper}
 use Rattle.evidence.specs.Rows.{Row, setOf, creditRow, creditOf, credit, properSet, properRows}
 use Rattle.evidence.specs.Holders.{holders}
-use Rattle.evidence.proofs.Members.{Proper, holds-above, holds-below, insert-top, insert-old, insert-proper, proper-facts, proper-empty, proper-odd}
+use Rattle.sets.proofs.Members.{Proper, holds-above, holds-below, insert-top, insert-old, insert-proper, proper-facts, proper-empty, proper-odd}
 
 -- ---- the ticks that a frame adds lie at most two below its own
 

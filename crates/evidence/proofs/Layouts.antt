@@ -9,9 +9,9 @@ use native.Mathlib.Nat.{add-assoc}
 use native.Mathlib.Omega.{arith}
 use lib.ListN.{length, getD}
 use lib.Dec.{eqb}
-use Rattle.forms.specs.Field.{field, putField, words, Bytes}
-use Rattle.forms.proofs.Fields.{field-same, field-put-other, put-field, getD-put-other, length-put, bytes-put}
-use Rattle.evidence.specs.Ticks.{Held, add}
+use Rattle.fields.specs.Field.{field, putField, words, Bytes}
+use Rattle.fields.proofs.Fields.{field-same, field-put-other, put-field, getD-put-other, length-put, bytes-put}
+use Rattle.sets.specs.Ticks.{Held, add}
 use Rattle.evidence.specs.Rows.{Row, rowSize, setOf, setPlace, setAt, rowAt, rowsAt, putSet, putRow, putRows, creditRow, creditOf, credit}
 
 -- ---- the columns

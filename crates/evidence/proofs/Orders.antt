@@ -7,7 +7,7 @@ use mathlib.Core.List.List·Permᴰ.{List·Permᴰ·nil, List·Permᴰ·cons, Li
 use Prim.Native.Nat.{ℕ, _+_, max}
 use native.Mathlib.Omega.{arith}
 use lib.Dec.{leb, eqb}
-use Rattle.evidence.specs.Ticks.{Held, holds}
+use Rattle.sets.specs.Ticks.{Held, holds}
 use Rattle.evidence.specs.Rows.{Row, setOf, creditOf, credit}
 use Rattle.evidence.specs.Holders.{holders, firstDown, bestOf, bestAmong, greatest}
 

@@ -5,7 +5,7 @@ use Prim.Native.Nat.{ℕ, zero, suc, _+_, _-_, max}
 use mathlib.Core.List.{List, [], _∷_}
 use mathlib.Core.Bool.{Bool, cond, _&&_}
 use lib.Dec.{leb, eqb}
-use Rattle.evidence.specs.Ticks.{Held, holds}
+use Rattle.sets.specs.Ticks.{Held, holds}
 use Rattle.evidence.specs.Rows.{Row, setOf}
 use Rattle.evidence.specs.declared.rows.Found.{Found}
 use Rattle.evidence.specs.declared.rows.Found.the-variants.{At, Nowhere}

@@ -1,5 +1,2 @@
-pub mod History
 pub mod Holders
 pub mod Rows
-pub mod Sets
-pub mod Ticks

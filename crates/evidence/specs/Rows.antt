@@ -5,8 +5,8 @@ use Prim.Native.Nat.{ℕ, zero, suc, _+_, _*_}
 use mathlib.Core.List.{List, [], _∷_, map}
 use mathlib.Core.Bool.{Bool, true, cond, _&&_}
 use lib.Dec.{eqb, leb}
-use Rattle.forms.specs.Field.{field, putField}
-use Rattle.evidence.specs.Ticks.{Held, add, proper}
+use Rattle.fields.specs.Field.{field, putField}
+use Rattle.sets.specs.Ticks.{Held, add, proper}
 
 -- what is held from one sender
 pub record Row : Type 0 where

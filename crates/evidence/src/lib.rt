@@ -1,4 +1,3 @@
-// Evidence: sets of ticks, and rows of them in lent bytes. It knows nothing of nodes: the window's width is a parameter of
+// Evidence: sets of ticks from each sender, as rows in lent bytes. It knows nothing of nodes: the window's width is a parameter of
 // every function.
 pub mod rows;
-pub mod ticks;

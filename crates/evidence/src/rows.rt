@@ -1,25 +1,25 @@
 // Rows as they lie in an image's bytes, looked at and updated where they lie: nothing is unpacked. Each function takes the whole
 // buffer and the place i where the rows begin. These are joints between layers: each asks that its rows lie inside the buffer
 // and that the window fits a mask, which the node has checked before.
-use crate::ticks::Ticks;
-use forms::field::long;
-use forms::field::put_long;
-use forms::field::put_word;
-use forms::field::word;
+use fields::field::long;
+use fields::field::put_long;
+use fields::field::put_word;
+use fields::field::word;
+use sets::ticks::Ticks;
 ghost use mathlib.Core.Path.{_≡_};
-ghost use Prim.Native.Nat.{_+_, _*_, _≤_, _<_, max};
+ghost use Prim.Native.Nat.{_+_, _*_, _≤_, _<_};
 ghost use lib.ListN.{length};
-ghost use Rattle.forms.specs.Field.{words};
+ghost use Rattle.fields.specs.Field.{words};
 ghost use Rattle.forms.specs.Roster.{count};
-ghost use Rattle.evidence.specs.Holders.{holders, greatest, placeOf, foundBy, bestOf};
+ghost use Rattle.evidence.specs.Holders.{holders, placeOf, foundBy};
 ghost use Rattle.evidence.specs.Rows.{setPlace, setAt, putSet, rowsAt, putRows, credit, properSet, properRows};
-ghost use Rattle.evidence.specs.Sets.{heldBy};
+ghost use Rattle.sets.specs.Sets.{heldBy};
 
 // Bytes of a row: serial, then top and mask of the echo set and of the init set.
 pub const ROW: usize = 28;
 
 // Where in its row the set of a kind stands.
-fn set_place(kind: u32) -> usize
+pub fn set_place(kind: u32) -> usize
     ensures { λ r. ⌜ (r ≡ setPlace 8 kind) × (r ≤ 16) ⌝ }
 {
     if kind == 2 { 4 } else { 16 }
@@ -83,47 +83,6 @@ pub fn count_holders(b: &[u8], i: usize, n: usize, kind: u32, w: u32, t: u32) ->
         left -= 1;
     }
     found
-}
-
-// The greatest tick of one set s, as tick + 1, that is above best and that m of the n rows hold; else best. The set's own bit
-// is tested first, and the search ends at the best so far.
-fn better(b: &[u8], i: usize, n: usize, kind: u32, w: u32, m: usize, s: Ticks, best: u64) -> u64
-    requires { ⌜ (i + n * 28 ≤ length (now b)) × (w ≤ 64) ⌝ }
-    ensures { λ r. ⌜ r ≡ max best (bestOf w kind m best (rowsAt 8 n (now (b .entry)) i) (heldBy s)) ⌝ }
-{
-    let mut x = s.top as u64 + 1;
-    let mut left = w;
-    while 0 < left {
-        if x <= best {
-            return best;
-        }
-        let t = (x - 1) as u32;
-        if s.holds(w, t) == 1 {
-            if m <= count_holders(b, i, n, kind, w, t) {
-                return x;
-            }
-        }
-        x -= 1;
-        left -= 1;
-    }
-    best
-}
-
-// The greatest tick of a kind, as tick + 1, that is at least low and that m of the n rows from i on hold; 0 for none.
-pub fn find_greatest(b: &[u8], i: usize, n: usize, kind: u32, w: u32, m: usize, low: u64) -> u64
-    requires { ⌜ (i + n * 28 ≤ length (now b)) × (w ≤ 64) ⌝ }
-    ensures { λ r. ⌜ (r ≡ greatest w kind m low (rowsAt 8 n (now (b .entry)) i)) × (r ≤ 4294967296) ⌝ }
-{
-    let place = set_place(kind);
-    let mut best = low;
-    let mut at = i;
-    let mut left = n;
-    while 0 < left {
-        best = better(b, i, n, kind, w, m, read_set(b, at + place), best);
-        at += ROW;
-        left -= 1;
-    }
-    if low < best { best } else { 0 }
 }
 
 // Credits the frame (kind, j) to the row of a serial.

@@ -4,7 +4,7 @@ use mathlib.Core.Path.{_≡_, refl}
 use Prim.Native.Nat.{ℕ}
 use mathlib.Core.List.{List, [], _∷_}
 use lib.ListN.{replicate}
-use Rattle.forms.specs.Field.{field, putField, words, putWords}
+use Rattle.fields.specs.Field.{field, putField, words, putWords}
 use Rattle.forms.specs.Roster.{count, twins, rosterNumber}
 use Rattle.forms.specs.Form.{formNumber, formTold, putForm, formWritten}
 use Rattle.forms.specs.Frame.{frameNumber, frameTold, putFrame, frameWritten}

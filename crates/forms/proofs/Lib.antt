@@ -1,6 +1,5 @@
 -- The laws and theorems of `forms` that belong to no single function.
 mod Examples
-pub mod Fields
 pub mod Frames
 pub mod Meaning
 pub mod Order
@@ -8,4 +7,3 @@ pub mod Rosters
 pub mod RoundTrip
 pub mod Single
 pub mod Told
-pub mod Words

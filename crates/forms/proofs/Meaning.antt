@@ -13,11 +13,11 @@ use lib.ListN.{length, getD}
 use lib.Dec.{ltb, eqb, eqb·suc-zero}
 use borrow.Author.Tests.{ltb-true, lt-ltb, eqb-true, eqb-false, eq-eqb}
 use Rattle.forms.specs.Number.{orElse}
-use Rattle.forms.specs.Field.{field}
+use Rattle.fields.specs.Field.{field}
 use Rattle.forms.specs.Roster.{count, twins, rosterNumber}
 use Rattle.forms.specs.Form.{linesOf, faultsOf, ownOf, serialsOf, misplaced, FormTold, formNumber, formTold, WriteTold, writeTold, formWritten}
 use Rattle.forms.specs.Frame.{badKind, FrameTold, frameNumber, frameTold, frameWritten}
-use Rattle.forms.proofs.Words.{length-words}
+use Rattle.fields.proofs.Words.{length-words}
 
 infixl 2 _or_
 infix 70 _when_

@@ -11,10 +11,10 @@ use lib.ListN.{length, getD, take}
 use lib.Seq.{getD-take}
 use lib.Dec.{eqb}
 use borrow.Author.Tests.{eq-eqb, ne-eqb}
-use Rattle.forms.specs.Field.{field}
+use Rattle.fields.specs.Field.{field}
 use Rattle.forms.specs.Roster.{count, twins, rosterNumber}
 use Rattle.forms.specs.Form.{formNumber, formTold, formWritten, faultsOf, ownOf, serialsOf}
-use Rattle.forms.proofs.Fields.{field-same}
+use Rattle.fields.proofs.Fields.{field-same}
 use Rattle.forms.proofs.Meaning.{write-number}
 
 -- ---- a roster, and the same lines in another order

@@ -13,12 +13,12 @@ use lib.ListN.{length, getD, take, drop, take-append-drop}
 use lib.Seq.{getD-take, length-take-le, take-suc-set, drop-set-lt, take-all}
 use lib.Dec.{ltb, eqb}
 use borrow.Author.Tests.{eqb-true, eqb-false, ltb-false, eq-eqb, le-ltb}
-use Rattle.forms.specs.Field.{field, putField, words, putWords, Bytes}
+use Rattle.fields.specs.Field.{field, putField, words, putWords, Bytes}
 use Rattle.forms.specs.Roster.{rosterNumber}
 use Rattle.forms.specs.Form.{linesOf, faultsOf, ownOf, serialsOf, formNumber, formTold, serialOn, WriteTold, writeTold, putForm, formWritten}
 use Rattle.forms.specs.Frame.{badKind, frameNumber, frameTold, putFrame, frameWritten, frameWriteNumber}
-use Rattle.forms.proofs.Fields.{field-same, field-put, field-put-other, put-field, length-put}
-use Rattle.forms.proofs.Words.{Words, length-words, words-same, length-putWords, field-putWords-before, words-putWords, putWords-words}
+use Rattle.fields.proofs.Fields.{field-same, field-put, field-put-other, put-field, length-put}
+use Rattle.fields.proofs.Words.{Words, length-words, words-same, length-putWords, field-putWords-before, words-putWords, putWords-words}
 use Rattle.forms.proofs.Meaning.{Given, formChecks, frameChecks, form-told, frame-told, roster-says, form-says, frame-says, form-writer-says, frame-writer-says}
 
 -- ---- laws of stores

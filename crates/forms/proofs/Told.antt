@@ -9,7 +9,7 @@ use native.Mathlib.Omega.{arith}
 use lib.ListN.{length}
 use lib.Dec.{ltb, eqb}
 use borrow.Author.Tests.{eqb-true, not-false}
-use Rattle.forms.specs.Field.{field}
+use Rattle.fields.specs.Field.{field}
 use Rattle.forms.specs.Form.{FormTold, misplaced, formNumber, formTold, refusedForm, linesOf, faultsOf, ownOf}
 use Rattle.forms.specs.Number.{numberOf}
 use Rattle.forms.specs.declared.answer.Refusal.{Refusal}

@@ -5,7 +5,7 @@ use mathlib.Core.List.{List}
 use mathlib.Core.Bool.{Bool, cond, not, _||_}
 use lib.ListN.{length, getD}
 use lib.Dec.{ltb, eqb}
-use Rattle.forms.specs.Field.{field, putField, words, putWords}
+use Rattle.fields.specs.Field.{field, putField, words, putWords}
 use Rattle.forms.specs.Number.{numberOf}
 use Rattle.forms.specs.Roster.{rosterNumber}
 use Rattle.forms.specs.declared.answer.Written.{Written}

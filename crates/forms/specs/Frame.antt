@@ -5,7 +5,7 @@ use mathlib.Core.List.{List}
 use mathlib.Core.Bool.{Bool, cond, not, _||_, _&&_}
 use lib.ListN.{length, getD}
 use lib.Dec.{ltb, eqb}
-use Rattle.forms.specs.Field.{field, putField}
+use Rattle.fields.specs.Field.{field, putField}
 use Rattle.forms.specs.Form.{WriteTold, writeTold}
 use Rattle.forms.specs.Number.{numberOf}
 use Rattle.forms.specs.declared.frame.FrameRead.{FrameRead}

@@ -1,4 +1,3 @@
-pub mod Field
 pub mod Form
 pub mod Frame
 pub mod Number

@@ -1,8 +1,8 @@
 // The reader and the writer of a frame. The last tick stands on the node alone, so it is a parameter.
 use crate::answer::Refusal;
 use crate::answer::Written;
-use crate::field::put_word;
-use crate::field::word;
+use fields::field::put_word;
+use fields::field::word;
 ghost use mathlib.Core.Path.{_≡_};
 ghost use Prim.Native.Nat.{_+_, _≤_, _<_};
 ghost use lib.ListN.{length};

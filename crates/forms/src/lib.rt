@@ -1,6 +1,5 @@
-// Frames and forms of document 01: readers and writers over lent bytes. The bottom layer; it knows nothing of nodes.
+// Frames and forms of document 01: readers and writers over lent bytes. They know nothing of nodes.
 pub mod answer;
-pub mod field;
 pub mod form;
 pub mod frame;
 pub mod roster;

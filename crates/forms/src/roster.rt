@@ -2,11 +2,11 @@
 // joints between layers: the caller has checked that the column lies inside the buffer.
 use crate::answer::Refusal;
 use crate::answer::Verdict;
-use crate::field::word;
+use fields::field::word;
 ghost use mathlib.Core.Path.{_≡_};
 ghost use Prim.Native.Nat.{_+_, _*_, _≤_};
 ghost use lib.ListN.{length};
-ghost use Rattle.forms.specs.Field.{words};
+ghost use Rattle.fields.specs.Field.{words};
 ghost use Rattle.forms.specs.Number.{verdictOf};
 ghost use Rattle.forms.specs.Roster.{count, twins, rosterNumber};
 

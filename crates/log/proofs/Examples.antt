@@ -5,7 +5,7 @@ use mathlib.Core.List.{List, [], _∷_, _++_}
 use Prim.Native.Nat.{ℕ}
 use Rattle.log.specs.Decimal.{decimalIn, decimal}
 use Rattle.log.specs.Log.{logNumber, logTold}
-use Rattle.forms.specs.Field.{field}
+use Rattle.fields.specs.Field.{field}
 
 digits : (decimal 0 ≡ 48 ∷ []) × (decimal 9 ≡ 57 ∷ []) × (decimal 10 ≡ 49 ∷ 48 ∷ []) × (decimal 4000000000 ≡ 52 ∷ 48 ∷ 48 ∷ 48 ∷ 48 ∷ 48 ∷ 48 ∷ 48 ∷ 48 ∷ 48 ∷ [])
 unfolding decimal decimalIn

@@ -10,7 +10,7 @@ use native.Mathlib.Omega.{arith}
 use mathlib.Core.List.{List, [], _∷_, _++_, append-assoc, append-nil}
 use lib.ListN.{length, getD, set, take, drop, length-append, length-drop, take-append-drop}
 use lib.Seq.{length-take-le, take-take, take-append-le, take-at, drop-at, drop-drop, getD-take, getD-drop, getD-append-add, set-split, append-snoc}
-use Rattle.forms.specs.Field.{Bytes}
+use Rattle.fields.specs.Field.{Bytes}
 use Rattle.log.specs.Log.{lay}
 
 -- ---- the parts

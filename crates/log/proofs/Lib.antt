@@ -4,4 +4,5 @@ pub mod Decimals
 pub mod Lays
 pub mod LogTrip
 pub mod Logs
+pub mod Parts
 pub mod Puts

@@ -13,9 +13,9 @@ use lib.Seq.{length-take-le, getD-take, take-suc, take-suc-set, take-at, drop-at
 use lib.Dec.{eqb}
 use lib.Arith.{digits-div, digits-mod}
 use borrow.Author.Tests.{eqb-true}
-use Rattle.forms.specs.Field.{field, putField, Bytes}
+use Rattle.fields.specs.Field.{field, putField, Bytes}
 use Rattle.forms.specs.Form.{WriteTold}
-use Rattle.forms.proofs.Fields.{field-same, field-put, field-put-other, length-put}
+use Rattle.fields.proofs.Fields.{field-same, field-put, field-put-other, length-put}
 use Rattle.forms.proofs.Meaning.{Check, _when_, Given, Says, roomCheck}
 use Rattle.log.specs.Log.{countOf, eventsAt, formOf, eventsOf, logNumber, LogTold, logTold, lay, putLog, logWritten}
 use Rattle.log.proofs.Lays.{take-lay, drop-lay-behind, length-lay}

@@ -5,7 +5,7 @@ use mathlib.Core.List.{List, [], _∷_, _++_}
 use mathlib.Core.Bool.{cond}
 use lib.ListN.{length, take, drop, replicate}
 use lib.Dec.{ltb, eqb}
-use Rattle.forms.specs.Field.{field}
+use Rattle.fields.specs.Field.{field}
 use Rattle.forms.specs.Form.{WriteTold}
 use Rattle.node.specs.Calls.{Outcome, booted, deliverOutcome}
 use Rattle.node.specs.Image.{Layout, nodeOf}

@@ -6,7 +6,7 @@ use mathlib.Core.List.{List, _++_}
 use mathlib.Core.Bool.{Bool, cond, not, _||_}
 use lib.ListN.{length, take, drop}
 use lib.Dec.{ltb, eqb}
-use Rattle.forms.specs.Field.{field, putField}
+use Rattle.fields.specs.Field.{field, putField}
 use Rattle.forms.specs.Form.{WriteTold}
 use Rattle.log.specs.declared.file.LogRead.{LogRead}
 use Rattle.log.specs.declared.file.LogRead.the-variants.{Taken, Refused}

@@ -1,6 +1,6 @@
 // The reader and the writer of a log.
-use forms::field::put_word;
-use forms::field::word;
+use fields::field::put_word;
+use fields::field::word;
 ghost use mathlib.Core.Path.{_≡_};
 ghost use Prim.Native.Nat.{_+_, _≤_};
 ghost use lib.ListN.{length};

@@ -3,19 +3,19 @@ use crate::file::Log;
 use crate::file::LogRead;
 use crate::file::put_bytes;
 use crate::file::read_log;
-use forms::field::word;
+use fields::field::word;
 use node::face::Answer;
 use node::face::pebrassola_boot;
 use node::face::pebrassola_deliver;
-use node::image::read_node;
 ghost use mathlib.Core.Path.{_≡_};
 ghost use Prim.Native.Nat.{_+_, _*_, _≤_};
 ghost use lib.ListN.{length};
-ghost use Rattle.node.specs.Describe.{lastTick};
+ghost use Rattle.rules.specs.Describe.{lastTick};
 ghost use Rattle.node.specs.Calls.{booted};
-ghost use Rattle.node.specs.Image.{layout, nodeOf};
+ghost use Rattle.node.specs.Faces.{outcomeBy};
+ghost use Rattle.node.specs.Image.{layout};
 ghost use Rattle.log.specs.Decimal.{decimal};
-ghost use Rattle.log.specs.Listing.{column, line, eventLines, imageLent, outLent, callLines, played};
+ghost use Rattle.log.specs.Listing.{column, line, imageLent, outLent, callLines, played};
 ghost use Rattle.log.specs.Log.{countOf, eventsAt, formOf, lay};
 ghost use Rattle.log.specs.Played.{playedBy};
 
@@ -76,50 +76,62 @@ fn put_line(
     d + 2
 }
 
-// Puts the line of a call, with k and mode as its image has them.
-fn put_call(out: &mut [u8], i: usize, event: u32, answer: Answer, image: &[u8]) -> usize
-    requires { ⌜ (i + 46 ≤ length (now out)) × (32 ≤ length (now image)) ⌝ }
-    ensures { λ r. ⌜ (r ≡ i + length (line event (answer .number) (answer .records) (nodeOf (now (image .entry)) .tick) (nodeOf (now (image .entry)) .mode))) × (r ≤ i + 46) × (now (out .exit) ≡ lay (now (out .entry)) i (line event (answer .number) (answer .records) (nodeOf (now (image .entry)) .tick) (nodeOf (now (image .entry)) .mode))) ⌝ }
-{
-    let node = read_node(image);
-    put_line(
-        out,
-        i,
-        event,
-        answer.number,
-        answer.records,
-        node.tick,
-        node.mode,
-    )
+// What a line shows of a call: the event's number (0 for boot), the number given back, and the records.
+struct Call {
+    event: u32,
+    number: u32,
+    records: u32,
 }
 
-// Plays n events from a place of the log on, and puts their lines.
+impl Call {
+    fn new(event: u32, answer: Answer) -> Call
+        ensures { λ r. ⌜ (r .event ≡ event) × (r .number ≡ answer .number) × (r .records ≡ answer .records) ⌝ }
+    {
+        Call {
+            event,
+            number: answer.number,
+            records: answer.records,
+        }
+    }
+}
+
+// Puts boot's line and, where the form is taken, plays the events and puts the line of each. k and mode stand in the image that
+// the call left, whether it was refused or not; an event is counted on from the call before it.
 fn play_events(
     log: &[u8],
-    start: usize,
-    n: u32,
+    taken: Log,
+    boot: Answer,
     image: &mut [u8],
     sent: &mut [u8],
     out: &mut [u8],
-    first: usize,
 ) -> usize
-    requires { ⌜ (start + 12 * n ≤ length (now log)) × (n ≤ 4096) × (32 ≤ length (now image)) × (first + 46 * n ≤ length (now out)) ⌝ }
-    ensures { λ r. ⌜ (r ≡ first + length (eventLines layout lastTick (now (log .entry)) n start 1 (now (image .entry)) (now (sent .entry)))) × (r ≤ first + 46 * n) × (now (out .exit) ≡ lay (now (out .entry)) first (eventLines layout lastTick (now (log .entry)) n start 1 (now (image .entry)) (now (sent .entry)))) ⌝ }
+    requires { ⌜ (taken .count ≤ 4096) × (taken .events + 12 * taken .count ≤ length (now log)) × (taken .events ≡ eventsAt (now log)) × (taken .count ≡ countOf (now log)) × (32 ≤ length (now image)) × (188462 ≤ length (now out)) ⌝ }
+    ensures { λ r. ⌜ (r ≡ length (callLines layout lastTick (now (log .entry)) (outcomeBy boot (now (image .entry)) (now (sent .entry))))) × (r ≤ 188462) × (now (out .exit) ≡ lay (now (out .entry)) 0 (callLines layout lastTick (now (log .entry)) (outcomeBy boot (now (image .entry)) (now (sent .entry))))) ⌝ }
 {
-    let mut i: u32 = 0;
-    let mut at = first;
-    let mut place = start;
-    while i < n {
-        let port = word(log, place);
-        let answer = pebrassola_deliver(image, port, &log[place + 4..place + 12], sent);
-        at = put_call(out, at, i + 1, answer, image);
+    let k = word(image, 8);
+    let mode = image[2] as u32;
+    let mut before = Call::new(0, boot);
+    let mut at = put_line(out, 0, before.event, before.number, before.records, k, mode);
+    if before.number != 0 {
+        return at;
+    }
+    let mut place = taken.events as usize;
+    while before.event < taken.count {
+        let event = &log[place..place + 12];
+        let port = word(event, 0);
+        let answer = pebrassola_deliver(image, port, &event[4..12], sent);
+        let after = &image[..];
+        let k = word(after, 8);
+        let mode = after[2] as u32;
+        let call = Call::new(before.event + 1, answer);
+        at = put_line(out, at, call.event, call.number, call.records, k, mode);
+        before = call;
         place += 12;
-        i += 1;
     }
     at
 }
 
-// Plays a log that is taken.
+// Boots the form of a log that is taken, and plays its events.
 fn play_calls(log: &[u8], taken: Log, out: &mut [u8]) -> usize
     requires { ⌜ (12 ≤ taken .events) × (taken .count ≤ 4096) × (taken .events + 12 * taken .count ≤ length (now log)) × (taken .events ≡ eventsAt (now log)) × (taken .count ≡ countOf (now log)) × (188462 ≤ length (now out)) ⌝ }
     ensures { λ r. ⌜ (r ≡ length (callLines layout lastTick (now (log .entry)) (booted layout (formOf (now (log .entry))) imageLent outLent))) × (r ≤ 188462) × (now (out .exit) ≡ lay (now (out .entry)) 0 (callLines layout lastTick (now (log .entry)) (booted layout (formOf (now (log .entry))) imageLent outLent))) ⌝ }
@@ -127,12 +139,8 @@ fn play_calls(log: &[u8], taken: Log, out: &mut [u8]) -> usize
     let mut image = [0u8; 928];
     let mut sent = [0u8; 192];
     let e = taken.events as usize;
-    let answer = pebrassola_boot(&log[12..e], &mut image, &mut sent);
-    let at = put_call(out, 0, 0, answer, &image);
-    if answer.number != 0 {
-        return at;
-    }
-    play_events(log, e, taken.count, &mut image, &mut sent, out, at)
+    let boot = pebrassola_boot(&log[12..e], &mut image, &mut sent);
+    play_events(log, taken, boot, &mut image, &mut sent, out)
 }
 
 // The listing of a log.

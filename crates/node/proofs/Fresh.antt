@@ -11,17 +11,17 @@ use lib.ListN.{length}
 use lib.Dec.{ltb, leb, eqb}
 use lib.Pow.{pow-pos}
 use Rattle.forms.specs.Roster.{rosterNumber}
-use Rattle.evidence.specs.Ticks.{Held, empty, holds}
+use Rattle.sets.specs.Ticks.{Held, empty, holds}
 use Rattle.evidence.specs.Rows.{Row, setOf}
 use Rattle.evidence.specs.Holders.{holders, greatest}
 use Rattle.evidence.proofs.Greatest.{greatest-none}
 use Rattle.evidence.proofs.Growth.{Kept, AllKept}
-use Rattle.evidence.proofs.Members.{bare}
-use Rattle.node.specs.Delivery.{State}
-use Rattle.node.specs.Describe.{freshNode, freshRows}
-use Rattle.node.specs.Rules.{orJump, orWake, firstRule}
-use Rattle.node.specs.declared.node.Rule.{Rule}
-use Rattle.node.specs.declared.node.Rule.the-variants.{Rest, Echo, Tick, Jump, Wake}
+use Rattle.sets.proofs.Members.{bare}
+use Rattle.rules.specs.Delivery.{State}
+use Rattle.rules.specs.Describe.{freshNode, freshRows}
+use Rattle.rules.specs.Rules.{orJump, orWake, firstRule}
+use Rattle.rules.specs.declared.node.Rule.{Rule}
+use Rattle.rules.specs.declared.node.Rule.the-variants.{Rest, Echo, Tick, Jump, Wake}
 use Rattle.node.proofs.Stays.{Sound, roster-size}
 
 pub fresh-serials : (serials : List ℕ) → map (λ (row : Row). row .serial) (freshRows serials) ≡ serials

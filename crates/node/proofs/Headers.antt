@@ -6,7 +6,7 @@ use Prim.Native.Nat.{ℕ, _%_, _<_}
 use native.Mathlib.Nat.{add-zero}
 use native.Mathlib.Omega.{arith}
 use lib.ListN.{set}
-use Rattle.forms.specs.Field.{putField}
+use Rattle.fields.specs.Field.{putField}
 
 -- a field of one byte
 pub put-byte : (b : List ℕ) (i v : ℕ) → v < 256 → putField 1 b i v ≡ set b i v

@@ -9,14 +9,14 @@ use native.Mathlib.Omega.{arith}
 use borrow.Author.Tests.{eq-eqb, eqb-true, le-ltb, ltb-false, not-true}
 use lib.ListN.{length, getD, drop}
 use lib.Dec.{T, ltb, leb, eqb, lit<, lit≤}
-use Rattle.forms.specs.Field.{field, putField, Bytes}
-use Rattle.forms.proofs.Fields.{field-same, field-lt, put-field}
+use Rattle.fields.specs.Field.{field, putField, Bytes}
+use Rattle.fields.proofs.Fields.{field-same, field-lt, put-field}
 use Rattle.evidence.specs.Rows.{Row, rowSize, rowsAt, putRows}
 use Rattle.evidence.proofs.Layouts.{rows-same, put-rows}
 use Rattle.evidence.proofs.Encoded.{RowsFit, rows-read-back, length-putRows, bytes-putRows, getD-putRows-before}
-use Rattle.node.specs.Delivery.{State}
+use Rattle.rules.specs.Delivery.{State}
 use Rattle.node.specs.Image.{Layout, imageSize, nodeOf, rowsOf, stateOf, putClock, putFixed, putNode, putState, fixedHeader}
-use Rattle.node.specs.declared.node.Node.{Node}
+use Rattle.rules.specs.declared.node.Node.{Node}
 use Rattle.node.proofs.Stores.{Store, store, putStores, apart, stored-at, stores-apart, length-stores, bytes-stores, getD-stores, getD-above, field-byte}
 
 -- a node whose numbers fit their fields

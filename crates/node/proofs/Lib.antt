@@ -1,18 +1,13 @@
 -- The laws and theorems of `node` that belong to no single function. A reader starts at `Theorems`.
-pub mod AtRest
-pub mod Firing
 pub mod Fresh
 pub mod Headers
 pub mod Images
 pub mod Lives
-pub mod Modes
 pub mod Numbers
 pub mod Orderly
-pub mod Records
 pub mod Sound
 pub mod SoundImages
 pub mod Stays
 pub mod Stores
 pub mod Taken
 pub mod Theorems
-pub mod Worked

@@ -10,23 +10,23 @@ use native.Mathlib.Omega.{arith}
 use lib.ListN.{length, getD, take}
 use lib.Dec.{ltb, eqb, lit<, lit≤}
 use lib.Seq.{getD-take}
-use Rattle.forms.specs.Field.{field, words, Bytes}
+use Rattle.fields.specs.Field.{field, words, Bytes}
 use Rattle.forms.specs.Form.{linesOf, faultsOf, ownOf, serialsOf, formNumber}
 use Rattle.forms.specs.Frame.{frameNumber}
 use Rattle.forms.specs.Number.{orElse}
 use Rattle.forms.specs.Roster.{count}
-use Rattle.forms.proofs.Fields.{field-same}
+use Rattle.fields.proofs.Fields.{field-same}
 use Rattle.forms.proofs.Order.{count-order, form-number-order}
 use Rattle.evidence.specs.Rows.{Row, rowSize, rowsAt}
 use Rattle.evidence.proofs.Encoded.{bytes-putRows}
 use Rattle.evidence.proofs.Layouts.{serials-of-rows}
 use Rattle.node.specs.Calls.{Outcome, Reading, bootNumber, freshState, booted, deliverNumber, deliveryOf, imageAfter, deliverOutcome, readNumber, reading}
-use Rattle.node.specs.Delivery.{State, Delivered, delivered}
-use Rattle.node.specs.Describe.{room, freshNode, freshRows}
+use Rattle.rules.specs.Delivery.{State, Delivered, delivered}
+use Rattle.rules.specs.Describe.{room, freshNode, freshRows}
 use Rattle.node.specs.Image.{Layout, imageSize, nodeOf, rowsOf, stateOf, soundImage, putState}
-use Rattle.node.specs.Record.{Outgoing, putRecords}
+use Rattle.rules.specs.Record.{Outgoing, putRecords}
 use Rattle.node.specs.Runs.{Call, Deliver, Read, under, Seen, seenBy, seenIn, Called, called, observed, life}
-use Rattle.node.specs.declared.node.Node.{Node}
+use Rattle.rules.specs.declared.node.Node.{Node}
 use Rattle.node.proofs.Images.{bytes-putClock, bytes-putState}
 use Rattle.node.proofs.Orderly.{delivery-order, under-order}
 use Rattle.node.proofs.SoundImages.{Works, Follows, delivery-sound, deliver-done, deliver-refused, Begins, boot-sound, boot-done, boot-kept}

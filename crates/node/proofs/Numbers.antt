@@ -11,7 +11,7 @@ use native.Mathlib.Omega.{arith}
 use borrow.Author.Tests.{eqb-true, eqb-false}
 use lib.ListN.{length, getD}
 use lib.Dec.{ltb, eqb}
-use Rattle.forms.specs.Field.{field, words}
+use Rattle.fields.specs.Field.{field, words}
 use Rattle.forms.specs.Form.{linesOf, formNumber}
 use Rattle.forms.specs.Frame.{frameNumber}
 use Rattle.forms.specs.Roster.{count}

@@ -7,16 +7,16 @@ use mathlib.Core.List.{List, [], _∷_, _++_, map, List·Permᴰ}
 use Prim.Native.Nat.{ℕ, zero, suc, _+_, _-_}
 use native.Mathlib.Omega.{arith}
 use lib.Dec.{ltb, leb, eqb}
-use Rattle.evidence.specs.Ticks.{holds}
+use Rattle.sets.specs.Ticks.{holds}
 use Rattle.evidence.specs.Rows.{Row, setOf, credit}
 use Rattle.evidence.specs.Holders.{holders, greatest}
 use Rattle.evidence.proofs.Orders.{joined-order, holders-order, greatest-order, credit-order}
-use Rattle.node.specs.Delivery.{State, Delivered, answer, settled, delivered}
-use Rattle.node.specs.Rules.{orJump, orWake, firstRule, fired, Settled, firing, settle}
+use Rattle.rules.specs.Delivery.{State, Delivered, answer, settled, delivered}
+use Rattle.rules.specs.Rules.{orJump, orWake, firstRule, fired, Settled, firing, settle}
 use Rattle.node.specs.Runs.{under}
-use Rattle.node.specs.declared.node.Node.{Node}
-use Rattle.node.specs.declared.node.Rule.{Rule}
-use Rattle.node.specs.declared.node.Rule.the-variants.{Rest, Echo, Tick, Jump, Wake}
+use Rattle.rules.specs.declared.node.Node.{Node}
+use Rattle.rules.specs.declared.node.Rule.{Rule}
+use Rattle.rules.specs.declared.node.Rule.the-variants.{Rest, Echo, Tick, Jump, Wake}
 
 module _ (w last : ℕ) {rows others : List Row} (order : List·Permᴰ rows others) where
   pub rule-order : (p : Node) → firstRule w last rows p ≡ firstRule w last others p

@@ -9,17 +9,17 @@ use native.Mathlib.Omega.{arith}
 use lib.ListN.{length, getD}
 use lib.Dec.{eqb}
 use borrow.Author.Tests.{ltb-false, le-ltb, leb-true, le-leb, eqb-true, eq-eqb, not-true}
-use Rattle.forms.specs.Field.{field, words}
+use Rattle.fields.specs.Field.{field, words}
 use Rattle.forms.specs.Roster.{count, twins, rosterNumber}
 use Rattle.forms.proofs.Meaning.{roster-says, twice-says}
 use Rattle.forms.proofs.Rosters.{Limits, roster-limits}
-use Rattle.forms.proofs.Words.{length-words}
+use Rattle.fields.proofs.Words.{length-words}
 use Rattle.evidence.specs.Rows.{Row, rowSize, rowsAt, properRows}
 use Rattle.evidence.proofs.Layouts.{serials-of-rows}
-use Rattle.node.specs.Delivery.{State}
+use Rattle.rules.specs.Delivery.{State}
 use Rattle.node.specs.Image.{Layout, layout, imageSize, nodeOf, stateOf, fixedHeader, atRest, soundState, soundImage}
-use Rattle.node.specs.Rules.{firstRule}
-use Rattle.node.specs.Steps.{RowsIn}
+use Rattle.rules.specs.Rules.{firstRule}
+use Rattle.rules.specs.Steps.{RowsIn}
 
 -- ---- the parts of the tests
 

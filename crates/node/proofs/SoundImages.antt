@@ -9,23 +9,23 @@ use native.Mathlib.Omega.{arith}
 use borrow.Author.Tests.{eq-eqb, ne-eqb, ltb-false, lt-ltb}
 use lib.ListN.{length, getD}
 use lib.Dec.{ltb, eqb, lit<}
-use Rattle.forms.specs.Field.{field, words, Bytes}
+use Rattle.fields.specs.Field.{field, words, Bytes}
 use native.Mathlib.Nat.{one-le-pow}
 use Rattle.forms.specs.Form.{misplaced, linesOf, faultsOf, ownOf, serialsOf, formNumber}
 use Rattle.forms.specs.Number.{orElse}
 use Rattle.forms.specs.Roster.{rosterNumber}
-use Rattle.forms.proofs.Fields.{field-lt}
-use Rattle.forms.proofs.Words.{Words, length-words, words-words}
-use Rattle.evidence.specs.Ticks.{empty}
+use Rattle.fields.proofs.Fields.{field-lt}
+use Rattle.fields.proofs.Words.{Words, length-words, words-words}
+use Rattle.sets.specs.Ticks.{empty}
 use Rattle.evidence.specs.Rows.{Row, rowSize, rowsAt, credit, putRows}
 use Rattle.evidence.proofs.Layouts.{length-rows}
 use Rattle.evidence.proofs.Encoded.{SetFits, RowsFit, rows-fit, credit-fits, length-credit}
 use Rattle.node.specs.Calls.{Outcome, outcome, bootNumber, freshState, booted, deliverNumber, deliveryOf, imageAfter, deliverOutcome}
-use Rattle.node.specs.Delivery.{State, Delivered, delivered}
-use Rattle.node.specs.Describe.{freshNode, freshRows, bootRecords}
+use Rattle.rules.specs.Delivery.{State, Delivered, delivered}
+use Rattle.rules.specs.Describe.{freshNode, freshRows, bootRecords}
 use Rattle.node.specs.Image.{Layout, imageSize, nodeOf, stateOf, fixedHeader, soundImage, putClock, putState}
-use Rattle.node.specs.Record.{putRecords}
-use Rattle.node.specs.declared.node.Node.{Node}
+use Rattle.rules.specs.Record.{putRecords}
+use Rattle.rules.specs.declared.node.Node.{Node}
 use Rattle.node.proofs.Fresh.{fresh-serials, fresh-length, fresh-sound}
 use Rattle.node.proofs.Images.{Fine, NodeFits, state-after, fixed-after, length-after, node-after, state-read-back, fixed-of-state, length-putState}
 use Rattle.node.proofs.Sound.{SoundNode, SoundBytes, sound-bytes, bytes-sound, rows-inside, stated-size}

@@ -13,20 +13,20 @@ use lib.Dec.{ltb, leb, eqb}
 use Rattle.forms.specs.Roster.{rosterNumber}
 use Rattle.forms.proofs.Meaning.{Beyond, roster-says}
 use Rattle.evidence.specs.Rows.{Row, credit, properRows}
-use Rattle.evidence.specs.Ticks.{added}
+use Rattle.sets.specs.Ticks.{added}
 use Rattle.evidence.specs.Holders.{holders, greatest}
 use Rattle.evidence.proofs.Greatest.{greatest-held, greatest-most}
 use Rattle.evidence.proofs.Growth.{AllKept, all-kept, all-kept-test, credit-kept, serials-credited, added-near, holders-less, held-bounded}
-use Rattle.node.specs.Delivery.{State, Delivered, answer, settled, delivered}
+use Rattle.rules.specs.Delivery.{State, Delivered, answer, settled, delivered}
 use Rattle.node.specs.Image.{atRest}
-use Rattle.node.specs.Record.{Outgoing, broadcast}
-use Rattle.node.specs.Rules.{jumpTo, wakeAt, firstRule, woken, fired, said, Settled, firing, settle}
-use Rattle.node.specs.declared.node.Node.{Node}
-use Rattle.node.specs.declared.node.Rule.{Rule}
-use Rattle.node.specs.declared.node.Rule.the-variants.{Rest, Echo, Tick, Jump, Wake}
-use Rattle.node.proofs.Firing.{said-few}
+use Rattle.rules.specs.Record.{Outgoing, broadcast}
+use Rattle.rules.specs.Rules.{jumpTo, wakeAt, firstRule, woken, fired, said, Settled, firing, settle}
+use Rattle.rules.specs.declared.node.Node.{Node}
+use Rattle.rules.specs.declared.node.Rule.{Rule}
+use Rattle.rules.specs.declared.node.Rule.the-variants.{Rest, Echo, Tick, Jump, Wake}
+use Rattle.rules.proofs.Firing.{said-few}
 use Rattle.node.proofs.Sound.{SoundNode}
-use Rattle.node.proofs.AtRest.{Told, told, Calm, potential, potential-most, comes-to-rest}
+use Rattle.rules.proofs.AtRest.{Told, told, Calm, potential, potential-most, comes-to-rest}
 
 -- ---- a sound state, as facts
 

@@ -12,8 +12,8 @@ use lib.ListN.{length, getD, take, drop}
 use lib.Seq.{split-at}
 use lib.Dec.{T, leb, leb→le}
 use mir.Facts.{and-yes, or-yes}
-use Rattle.forms.specs.Field.{field, putField, Bytes}
-use Rattle.forms.proofs.Fields.{field-same, field-put, field-put-other, getD-put-other, length-put, bytes-put}
+use Rattle.fields.specs.Field.{field, putField, Bytes}
+use Rattle.fields.proofs.Fields.{field-same, field-put, field-put-other, getD-put-other, length-put, bytes-put}
 
 -- a value written over a field
 pub record Store : Type 0 where

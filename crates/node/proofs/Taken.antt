@@ -11,7 +11,7 @@ use native.Mathlib.Omega.{arith}
 use lib.ListN.{length, getD}
 use lib.Dec.{ltb, eqb}
 use borrow.Author.Tests.{ltb-false, eqb-false}
-use Rattle.forms.specs.Field.{field, words}
+use Rattle.fields.specs.Field.{field, words}
 use Rattle.forms.specs.Form.{linesOf, faultsOf, ownOf, serialsOf, misplaced, formNumber, FormTold, formTold, toldBy}
 use Rattle.forms.specs.Frame.{frameNumber}
 use Rattle.forms.specs.Number.{numberOf, orElse}

@@ -11,12 +11,12 @@ use native.Mathlib.Omega.{arith}
 use lib.ListN.{length, getD}
 use lib.Dec.{lit<, lit≤}
 use mathlib.Core.Bool.{true}
-use Rattle.forms.specs.Field.{field, Bytes}
+use Rattle.fields.specs.Field.{field, Bytes}
 use Rattle.forms.proofs.Meaning.{Says}
 use Rattle.node.specs.Calls.{Outcome, bootNumber, freshState, booted, deliverNumber, deliveryOf, imageAfter, deliverOutcome, reading}
 use Rattle.node.specs.Calls.{Reading as Told}
-use Rattle.node.specs.Delivery.{State, Delivered, delivered}
-use Rattle.node.specs.Describe.{window, lastTick}
+use Rattle.rules.specs.Delivery.{State, Delivered, delivered}
+use Rattle.rules.specs.Describe.{window, lastTick}
 use Rattle.node.specs.Faces.{outcomeBy, readingBy}
 use Rattle.node.specs.declared.face.Answer.{Answer}
 use Rattle.node.specs.declared.face.Reading.{Reading}

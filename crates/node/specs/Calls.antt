@@ -5,16 +5,16 @@ use mathlib.Core.List.{List}
 use mathlib.Core.Bool.{cond}
 use lib.ListN.{length, getD}
 use lib.Dec.{ltb, eqb}
-use Rattle.forms.specs.Field.{field, words}
+use Rattle.fields.specs.Field.{field, words}
 use Rattle.forms.specs.Form.{linesOf, faultsOf, ownOf, serialsOf, formNumber}
 use Rattle.forms.specs.Frame.{frameNumber}
 use Rattle.forms.specs.Number.{orElse}
 use Rattle.forms.specs.Roster.{count}
 use Rattle.evidence.specs.Rows.{rowSize, putRows}
-use Rattle.node.specs.Delivery.{State, Delivered, delivered}
-use Rattle.node.specs.Describe.{room, freshNode, freshRows, bootRecords}
+use Rattle.rules.specs.Delivery.{State, Delivered, delivered}
+use Rattle.rules.specs.Describe.{room, freshNode, freshRows, bootRecords}
 use Rattle.node.specs.Image.{Layout, imageSize, stateOf, putClock, putState, soundImage}
-use Rattle.node.specs.Record.{putRecords}
+use Rattle.rules.specs.Record.{putRecords}
 
 -- number, count of records, and every byte of image and output at exit
 pub record Outcome : Type 0 where

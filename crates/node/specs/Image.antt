@@ -5,15 +5,15 @@ use mathlib.Core.List.{List, map}
 use mathlib.Core.Bool.{Bool, true, false, cond, not, _&&_, _||_}
 use lib.ListN.{length, getD}
 use lib.Dec.{ltb, leb, eqb}
-use Rattle.forms.specs.Field.{field, putField, words}
+use Rattle.fields.specs.Field.{field, putField, words}
 use Rattle.forms.specs.Roster.{rosterNumber}
 use Rattle.evidence.specs.Rows.{Row, rowSize, rowsAt, putRows, properRows}
-use Rattle.node.specs.Rules.{firstRule}
-use Rattle.node.specs.Delivery.{State}
-use Rattle.node.specs.Describe.{window}
-use Rattle.node.specs.declared.node.Node.{Node}
-use Rattle.node.specs.declared.node.Rule.{Rule}
-use Rattle.node.specs.declared.node.Rule.the-variants.{Rest, Echo, Tick, Jump, Wake}
+use Rattle.rules.specs.Rules.{firstRule}
+use Rattle.rules.specs.Delivery.{State}
+use Rattle.rules.specs.Describe.{window}
+use Rattle.rules.specs.declared.node.Node.{Node}
+use Rattle.rules.specs.declared.node.Rule.{Rule}
+use Rattle.rules.specs.declared.node.Rule.the-variants.{Rest, Echo, Tick, Jump, Wake}
 
 -- the window, the bytes of a mask, and header byte 3
 pub record Layout : Type 0 where

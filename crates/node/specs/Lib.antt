@@ -1,9 +1,4 @@
 pub mod Calls
-pub mod Delivery
-pub mod Describe
 pub mod Faces
 pub mod Image
-pub mod Record
-pub mod Rules
 pub mod Runs
-pub mod Steps

@@ -4,7 +4,7 @@ use Prim.Native.Nat.{ℕ, _+_}
 use mathlib.Core.List.{List, [], _∷_}
 use mathlib.Core.Bool.{cond}
 use lib.Dec.{eqb}
-use Rattle.evidence.specs.Ticks.{holds}
+use Rattle.sets.specs.Ticks.{holds}
 use Rattle.evidence.specs.Rows.{Row, setOf}
 use Rattle.node.specs.Calls.{Outcome, Reading, booted, deliverOutcome, reading}
 use Rattle.node.specs.Image.{Layout, nodeOf, rowsOf}

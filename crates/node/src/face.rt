@@ -5,9 +5,7 @@ use crate::image::put_clock;
 use crate::image::put_fresh_rows;
 use crate::image::put_node;
 use crate::image::read_node;
-use crate::node::Node;
-use crate::record::put_record;
-use forms::field::word;
+use fields::field::word;
 use forms::form::Form;
 use forms::form::FormRead;
 use forms::form::read_form;
@@ -15,11 +13,13 @@ use forms::frame::Frame;
 use forms::frame::FrameRead;
 use forms::frame::read_frame;
 use forms::roster::count_word;
+use rules::node::Node;
+use rules::record::put_record;
 ghost use mathlib.Core.Path.{_≡_};
 ghost use Prim.Native.Nat.{_≤_};
 ghost use lib.ListN.{length};
 ghost use Rattle.node.specs.Calls.{booted, deliverNumber, deliverOutcome, readNumber, reading};
-ghost use Rattle.node.specs.Describe.{lastTick};
+ghost use Rattle.rules.specs.Describe.{lastTick};
 ghost use Rattle.node.specs.Faces.{outcomeBy, readingBy};
 ghost use Rattle.node.specs.Image.{layout};
 
@@ -115,7 +115,8 @@ pub extern "C" fn pebrassola_deliver(
         kind: frame[0] as u32,
         tick: word(frame, 4),
     };
-    let next = read_node(image).deliver(image, 32, port, taken, out);
+    let node = read_node(image);
+    let next = node.deliver(image, 32, port, taken, out);
     put_clock(image, next.node);
     Answer {
         number: 0,

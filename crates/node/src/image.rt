@@ -1,23 +1,23 @@
 // The node image in lent bytes: its header read and written, its rows made, and whether it is sound.
-use crate::node::Node;
-use crate::node::Rule;
 use evidence::rows::are_proper;
 use evidence::rows::store_set;
-use evidence::ticks::Ticks;
+use fields::field::half;
+use fields::field::put_half;
+use fields::field::put_word;
+use fields::field::word;
 use forms::answer::Verdict;
-use forms::field::half;
-use forms::field::put_half;
-use forms::field::put_word;
-use forms::field::word;
 use forms::roster::judge;
+use rules::node::Node;
+use rules::node::Rule;
+use sets::ticks::Ticks;
 ghost use mathlib.Core.Path.{_≡_};
 ghost use Prim.Native.Nat.{_+_, _*_, _≤_, _<_};
 ghost use lib.ListN.{length};
-ghost use Rattle.forms.specs.Field.{words};
+ghost use Rattle.fields.specs.Field.{words};
 ghost use Rattle.evidence.specs.Rows.{rowsAt, putRows};
-ghost use Rattle.node.specs.Describe.{window, lastTick, freshRows};
+ghost use Rattle.rules.specs.Describe.{window, lastTick, freshRows};
 ghost use Rattle.node.specs.Image.{layout, nodeOf, stateOf, fixedHeader, atRest, putClock, putFixed, putNode, soundState, soundImage};
-ghost use Rattle.node.specs.Steps.{RowsIn};
+ghost use Rattle.rules.specs.Steps.{RowsIn};
 
 // Bytes of the header; the rows stand behind it.
 pub const HEADER: usize = 32;

@@ -1,28 +1,27 @@
-// Runs the settled examples and the edges of document 01 through the three calls for C, and prints what they gave. The file
-// `stdout` beside this folder is what the model in Python gives on the same calls (tests/model/trial.py), not what this program
-// once wrote.
+// Takes the steps on standard input: calls of boot, deliver and read, and what goes before them. tests/model/trial.py writes the
+// steps, and works out by its own model what they have to print.
 mod call;
-mod frame;
-mod large;
-mod last;
-mod refused;
-mod room;
-mod rosters;
+mod memory;
 mod show;
-mod small;
-mod story;
-mod unsound;
-mod zero;
+mod step;
+
+// Takes one step after the other, up to the first that is none.
+fn take_all(b: &[u8], image: &mut [u8; 960], saved: &mut [u8; 960]) {
+    let mut at = 0;
+    while at < b.len() {
+        let used = step::take(&b[at..], image, saved);
+        if used == 0 {
+            show::bad();
+            return;
+        }
+        at += used;
+    }
+}
 
 fn main() {
+    let mut b = io::large_buffer();
+    let size = io::read_full(0, &mut b);
     let mut image = [165u8; 960];
-    story::run(&mut image);
-    refused::run(&mut image);
-    room::run(&mut image);
-    unsound::run(&image);
-    rosters::run();
-    zero::run();
-    last::run();
-    small::run();
-    large::run();
+    let mut saved = [165u8; 960];
+    take_all(&b[..size], &mut image, &mut saved);
 }

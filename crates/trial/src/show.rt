@@ -1,96 +1,89 @@
-// What a line is made of, and what it compares.
+// What a line is made of.
+use crate::step::Step;
+use node::face::Answer;
 
-// Writes the byte at place i of a buffer in hex, with a space before each word of four.
-fn put_byte(i: usize, x: u8) {
+fn number(n: u32) {
+    io::write_all(1, b" ");
+    io::print_decimal(1, n as u64);
+}
+
+pub(crate) fn pair(m: u32, n: u32) {
+    number(m);
+    number(n);
+}
+
+pub(crate) fn end() {
+    io::write_all(1, b"\n");
+}
+
+pub(crate) fn bad() {
+    io::write_all(1, b"bad call\n");
+}
+
+// The byte at place i of a buffer in hex, with a space before each word of four.
+fn byte(i: usize, x: u8) {
     if i % 4 == 0 {
         io::write_all(1, b" ");
     }
     io::print_hex(1, x as u64, 2);
 }
 
-// Writes the bytes of b from one place up to another.
-pub(crate) fn put_hex(b: &[u8], from: usize, to: usize) {
+// The bytes of b from one place up to another.
+pub(crate) fn bytes(b: &[u8], from: usize, to: usize) {
     let mut i = from;
     while i < to {
         if i < b.len() {
-            put_byte(i, b[i]);
+            byte(i, b[i]);
         }
         i += 1;
     }
 }
 
-// Begins a line: what is tried, and by which call.
-pub(crate) fn begin(label: &[u8], call: &[u8]) {
-    io::write_all(1, label);
-    io::write_all(1, b" ");
-    io::write_all(1, call);
+fn part(b: &[u8], from: usize, to: usize) {
+    if from < to {
+        io::write_all(1, b" |");
+        bytes(b, from, to);
+    }
 }
 
-pub(crate) fn put_number(n: u32) {
-    io::write_all(1, b" ");
-    io::print_decimal(1, n as u64);
+// Whether a buffer kept its bytes from one place up to another.
+fn kept(old: &[u8], new: &[u8], from: usize, to: usize) -> bool {
+    if to < from {
+        return false;
+    }
+    if old.len() < to {
+        return false;
+    }
+    if new.len() < to {
+        return false;
+    }
+    check::same(&old[from..to], &new[from..to])
 }
 
-// Separates the parts of a line.
-pub(crate) fn put_bar() {
+// Whether every byte kept that is neither shown nor said to change.
+fn same(step: Step, old: &[u8; 960], image: &[u8; 960], out: &[u8; 200]) -> bool {
+    let fresh = [165u8; 200];
+    kept(old, image, step.front, step.from)
+        && kept(old, image, step.to, 960)
+        && kept(&fresh, out, step.written, 200)
+}
+
+// Number, records and the bytes of the image that the step names.
+pub(crate) fn answer(
+    step: Step,
+    answer: Answer,
+    old: &[u8; 960],
+    image: &[u8; 960],
+    out: &[u8; 200],
+) {
+    pair(answer.number, answer.records);
     io::write_all(1, b" |");
-}
-
-// Ends a line: whether all bytes that had to stay did.
-pub(crate) fn end(same: bool) {
-    if same {
+    bytes(out, 0, 12 * (answer.records as usize));
+    part(image, 0, step.front);
+    part(image, step.from, step.to);
+    if same(step, old, image, out) {
         io::write_all(1, b" | same\n");
     } else {
         io::write_all(1, b" | changed\n");
     }
-}
-
-// Whether an image buffer kept every byte but mode, k, last echo and one row.
-pub(crate) fn kept_but_row(before: &[u8; 960], after: &[u8; 960], row: u8) -> bool {
-    let old = &before[..];
-    let new = &after[..];
-    if row > 31 {
-        return false;
-    }
-    let at = 32 + 28 * (row as usize);
-    let end = at + 28;
-    if !check::same(&old[0..2], &new[0..2]) {
-        return false;
-    }
-    if !check::same(&old[3..8], &new[3..8]) {
-        return false;
-    }
-    if !check::same(&old[16..at], &new[16..at]) {
-        return false;
-    }
-    check::same(&old[end..], &new[end..])
-}
-
-// Whether a buffer kept every byte from one place on.
-pub(crate) fn kept_from(before: &[u8], after: &[u8], from: usize) -> bool {
-    if before.len() < from {
-        return false;
-    }
-    if after.len() < from {
-        return false;
-    }
-    check::same(&before[from..], &after[from..])
-}
-
-// Whether an output kept every byte behind its records.
-pub(crate) fn kept_behind(before: &[u8; 200], after: &[u8; 200], records: u32) -> bool {
-    kept_from(before, after, 12 * (records as usize))
-}
-
-// Whether an image buffer and an output kept every byte.
-pub(crate) fn untouched(
-    old_image: &[u8; 960],
-    image: &[u8; 960],
-    old_out: &[u8; 200],
-    out: &[u8; 200],
-) -> bool {
-    if check::same(old_image, image) {
-        return check::same(old_out, out);
-    }
-    false
 }

@@ -1,7 +1,8 @@
--- `say::bytes` meets its contract: it promises only to be safe and to end, and the test of each turn keeps the index below the
--- length. Assumes nothing.
+-- `say::bytes` is safe and ends: the test of each turn keeps the index below the length, and a byte fits a wider number.
+-- Assumes nothing.
 use Prim.Native.Nat.{_-_}
 use lib.ListN.{length}
+use native.Mathlib.Omega.{arith}
 use borrow.Author.Needs.{needs}
 use Rattle.edges.proofs.say.bytes.Statement.{statement}
 use Rattle.edges.proofs.say.bytes.Tie as tie
@@ -19,25 +20,28 @@ write-all-requires : tie.Need-write-all-requires Inv-loop μ-loop
 write-all-requires c κs = search needs
 
 loop-holds : tie.Need-loop-holds Inv-loop μ-loop
-loop-holds c = search needs
+loop-holds c = tt
 
-shared-slice-read-pair : tie.Need-shared-slice-read-pair Inv-loop μ-loop
-shared-slice-read-pair c = search needs
+shared-slice-read-print-hex : tie.Need-shared-slice-read-print-hex Inv-loop μ-loop
+shared-slice-read-print-hex c = omega arith
 
-pair-requires : tie.Need-pair-requires Inv-loop μ-loop
-pair-requires c κs = search needs
+cast-print-hex : tie.Need-cast-print-hex Inv-loop μ-loop
+cast-print-hex c = omega (arith, c .shared-slice-known2 .given (c .before .before .loop .i))
+
+print-hex-requires : tie.Need-print-hex-requires Inv-loop μ-loop
+print-hex-requires c κs = search needs
 
 add-i : tie.Need-add-i Inv-loop μ-loop
-add-i c = search needs
+add-i c = omega arith
 
 loop-less : tie.Need-loop-less Inv-loop μ-loop
-loop-less c = search needs
+loop-less c = omega arith
 
 loop-again : tie.Need-loop-again Inv-loop μ-loop
-loop-again c = search needs
+loop-again c = tt
 
 returns : tie.Need-returns Inv-loop μ-loop
-returns c = search needs
+returns c = tt
 
 pub bytes-spec : {M : Type 1} → statement M
 bytes-spec =
@@ -48,8 +52,9 @@ bytes-spec =
     slice-aggregate-write-all
     write-all-requires
     loop-holds
-    shared-slice-read-pair
-    pair-requires
+    shared-slice-read-print-hex
+    cast-print-hex
+    print-hex-requires
     add-i
     loop-less
     loop-again

@@ -8,7 +8,7 @@ use lib.ListN.{length}
 use denote.Ref.{now}
 use Rattle.evidence.specs.Holders.{holders}
 use Rattle.evidence.specs.Rows.{setPlace, setAt, rowsAt}
-use Rattle.evidence.specs.Ticks.{Held, holds}
+use Rattle.sets.specs.Ticks.{Held, holds}
 use Rattle.evidence.proofs.Columns.{holders-down, holders-end}
 use Rattle.evidence.proofs.rows.count_holders.Statement.{statement}
 use Rattle.evidence.proofs.rows.count_holders.Tie as tie

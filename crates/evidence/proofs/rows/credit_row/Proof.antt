@@ -7,10 +7,10 @@ use Prim.Native.Nat.{ℕ, suc, _+_, _*_, _≤_}
 use native.Mathlib.Omega.{arith}
 use lib.ListN.{length}
 use denote.Ref.{now}
-use Rattle.forms.specs.Field.{Bytes}
+use Rattle.fields.specs.Field.{Bytes}
 use Rattle.evidence.specs.Holders.{foundBy, placeOf}
 use Rattle.evidence.specs.Rows.{rowsAt, setAt, setPlace, putSet, putRows}
-use Rattle.evidence.specs.Ticks.{Held, add}
+use Rattle.sets.specs.Ticks.{Held, add}
 use Rattle.evidence.proofs.Credits.{stored, credit-at, credit-none, place-none, place-le}
 use Rattle.evidence.proofs.Layouts.{put-rows}
 use Rattle.evidence.proofs.rows.credit_row.Statement.{statement}

@@ -5,8 +5,8 @@ use mathlib.Core.Path.{sym, ap, _∙_}
 use mathlib.Core.Bool.{Bool, _&&_}
 use borrow.Author.Tests.{le-leb, lt-leb}
 use Rattle.evidence.specs.Rows.{properSet}
-use Rattle.evidence.specs.Sets.{heldBy}
-use Rattle.evidence.specs.Ticks.{proper}
+use Rattle.sets.specs.Sets.{heldBy}
+use Rattle.sets.specs.Ticks.{proper}
 use Rattle.evidence.proofs.rows.is_proper_set.Statement.{statement}
 use Rattle.evidence.proofs.rows.is_proper_set.Tie as tie
 

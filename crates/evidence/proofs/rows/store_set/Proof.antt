@@ -5,7 +5,7 @@ use mathlib.Core.Path.{_≡_, sym, ap, _∙_}
 use mathlib.Core.List.{List}
 use Prim.Native.Nat.{ℕ, _+_}
 use denote.Ref.{now}
-use Rattle.forms.specs.Field.{putField}
+use Rattle.fields.specs.Field.{putField}
 use Rattle.evidence.specs.Rows.{putSet}
 use Rattle.evidence.proofs.rows.store_set.Statement.{statement}
 use Rattle.evidence.proofs.rows.store_set.Tie as tie

@@ -7,7 +7,7 @@ use denote.Ref.{now}
 use lib.ListN.{replicate}
 use lib.Dec.{lit≤}
 use Rattle.forms.proofs.Rosters.{roster-two}
-use Rattle.forms.proofs.Words.{words-putWords}
+use Rattle.fields.proofs.Words.{words-putWords}
 use Rattle.forms.proofs.form.judge_list.Statement.{statement}
 use Rattle.forms.proofs.form.judge_list.Tie as tie
 

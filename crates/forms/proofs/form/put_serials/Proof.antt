@@ -9,7 +9,7 @@ use native.Mathlib.Omega.{arith}
 use denote.Ref.{now}
 use lib.ListN.{length, getD, drop, drop-of-length-le}
 use lib.Seq.{drop-cons}
-use Rattle.forms.specs.Field.{putField, putWords}
+use Rattle.fields.specs.Field.{putField, putWords}
 use Rattle.forms.proofs.form.put_serials.Statement.{statement}
 use Rattle.forms.proofs.form.put_serials.Tie as tie
 

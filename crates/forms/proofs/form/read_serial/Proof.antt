@@ -6,9 +6,9 @@ use Prim.Native.Nat.{_+_, _*_}
 use native.Mathlib.Omega.{arith}
 use denote.Ref.{now}
 use lib.ListN.{List·getD-eq-default}
-use Rattle.forms.specs.Field.{field}
+use Rattle.fields.specs.Field.{field}
 use Rattle.forms.specs.Form.{toldBy, formNumber, serialOn, serialsOf, linesOf}
-use Rattle.forms.proofs.Words.{length-words}
+use Rattle.fields.proofs.Words.{length-words}
 use Rattle.forms.proofs.Rosters.{getD-words}
 use Rattle.forms.proofs.Told.{refusal, told-refused, told-taken, form-length}
 use Rattle.forms.proofs.form.read_serial.Statement.{statement}

@@ -9,7 +9,7 @@ use native.Mathlib.Omega.{arith}
 use denote.Ref.{now}
 use lib.ListN.{length, set, length-set}
 use borrow.Author.Tests.{lt-ltb, le-ltb}
-use Rattle.forms.specs.Field.{putField, putWords}
+use Rattle.fields.specs.Field.{putField, putWords}
 use Rattle.forms.specs.Form.{formWritten, putForm}
 use Rattle.forms.specs.Number.{verdictOf}
 use Rattle.forms.specs.Roster.{rosterNumber}

@@ -6,9 +6,9 @@ use mathlib.Core.List.{List}
 use Prim.Native.Nat.{ℕ, _+_, _*_, _/_, _%_}
 use native.Mathlib.Omega.{arith}
 use denote.Ref.{now}
-use Rattle.forms.specs.Field.{putField}
+use Rattle.fields.specs.Field.{putField}
 use Rattle.forms.specs.Frame.{putFrame}
-use Rattle.forms.proofs.Fields.{put-mod, put-join}
+use Rattle.fields.proofs.Fields.{put-mod, put-join}
 use Rattle.forms.proofs.frame.put_frame.Statement.{statement}
 use Rattle.forms.proofs.frame.put_frame.Tie as tie
 

@@ -9,7 +9,7 @@ use denote.Ref.{now}
 use lib.ListN.{length, getD}
 use lib.Dec.{eqb}
 use borrow.Author.Tests.{ne-eqb, eq-eqb, lt-ltb, le-ltb}
-use Rattle.forms.specs.Field.{field}
+use Rattle.fields.specs.Field.{field}
 use Rattle.forms.specs.Frame.{badKind, misshapen, frameTold, frameNumber}
 use Rattle.forms.proofs.Frames.{echo-test, known-kind}
 use Rattle.forms.proofs.frame.read_frame.Statement.{statement}

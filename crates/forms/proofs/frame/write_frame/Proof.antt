@@ -9,7 +9,7 @@ use denote.Ref.{now}
 use lib.ListN.{length}
 use lib.Dec.{eqb}
 use borrow.Author.Tests.{ne-eqb, lt-ltb, le-ltb}
-use Rattle.forms.specs.Frame.{frameWritten}
+use Rattle.forms.specs.Frame.{frameWritten, putFrame}
 use Rattle.forms.proofs.Frames.{echo-test, known-kind}
 use Rattle.forms.proofs.frame.write_frame.Statement.{statement}
 use Rattle.forms.proofs.frame.write_frame.Tie as tie
@@ -51,11 +51,12 @@ returns-4 : tie.Need-returns-4
 unfolding frameWritten
 returns-4 c =
     let a = c .before .before .before .before .before .before .before .before .args in
+    let put : c .before .before .put-frame .last .0 ≡ putFrame (now (a .out)) 0 (a .kind) (a .tick) = c .before .before .put-frame .ensures in
     rw (
       known-kind (a .kind) (kind (c .before .before .before .before .before .before)),
       le-ltb (a .last) (a .tick) (c .before .before .before .before .before .if3 .left),
       le-ltb (length (now (a .out))) 8 (c .before .before .before .before .if4 .left),
-      c .before .before .put-frame .ensures,
+      put,
     )
 
 pub write-frame-spec : {M : Type 1} → statement M

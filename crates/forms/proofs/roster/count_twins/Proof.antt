@@ -6,7 +6,7 @@ use Prim.Native.Nat.{_+_, _-_, _*_, _≤_}
 use native.Mathlib.Omega.{arith}
 use denote.Ref.{now}
 use lib.ListN.{length}
-use Rattle.forms.specs.Field.{words}
+use Rattle.fields.specs.Field.{words}
 use Rattle.forms.specs.Roster.{twins}
 use Rattle.forms.proofs.Rosters.{size-step, twins-end, twins-step}
 use Rattle.forms.proofs.roster.count_twins.Statement.{statement}

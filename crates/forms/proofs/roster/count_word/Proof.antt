@@ -7,7 +7,7 @@ use Prim.Native.Nat.{_+_, _-_, _*_, _≤_}
 use native.Mathlib.Omega.{arith}
 use denote.Ref.{now}
 use lib.ListN.{length}
-use Rattle.forms.specs.Field.{words}
+use Rattle.fields.specs.Field.{words}
 use Rattle.forms.specs.Roster.{count}
 use Rattle.forms.proofs.Rosters.{size-step, count-end, count-here, count-past}
 use Rattle.forms.proofs.roster.count_word.Statement.{statement}

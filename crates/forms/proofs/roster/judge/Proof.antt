@@ -7,9 +7,9 @@ use Prim.Native.Nat.{ℕ}
 use native.Mathlib.Omega.{arith}
 use denote.Ref.{now}
 use lib.ListN.{length}
-use Rattle.forms.specs.Field.{words}
+use Rattle.fields.specs.Field.{words}
 use Rattle.forms.specs.Roster.{rosterNumber}
-use Rattle.forms.proofs.Words.{length-words}
+use Rattle.fields.proofs.Words.{length-words}
 use Rattle.forms.proofs.Rosters.{Limits, roster-two, roster-own, roster-zero, roster-twice, roster-stranger, roster-sound}
 use Rattle.forms.proofs.roster.judge.Statement.{statement}
 use Rattle.forms.proofs.roster.judge.Tie as tie

@@ -11,7 +11,7 @@ use denote.Ref.{now}
 use lib.ListN.{length}
 use Rattle.forms.specs.Form.{WriteTold}
 use Rattle.node.specs.Calls.{booted}
-use Rattle.node.specs.Describe.{lastTick}
+use Rattle.rules.specs.Describe.{lastTick}
 use Rattle.node.specs.Image.{layout}
 use Rattle.log.specs.Listing.{line, imageLent, outLent, callLines, listing, listingRoom, played}
 use Rattle.log.specs.Log.{LogTold, countOf, eventsAt, formOf, logNumber, logTold, toldBy, lay}
@@ -93,9 +93,10 @@ returns-2 : tie.Need-returns-2
 returns-2 c =
     let a = c .before .before .before .before .before .before .before .before .before .before .args in
     let put = c .before .before .put-line .ensures in
+    let bytes : c .before .before .put-line .last .0 ≡ lay (now (a .out)) 0 (line 0 13 0 0 0) = put .2 in
     played-listed (now (a .log)) (now (a .out)) (c .before .before .before .before .before .before .before .if1 .left)
     (lines-refused (now (a .log)) (ap toldBy (sym (c .before .before .before .before .enum-told .given .1)) ∙ c .before .before .before .before .before .before .read-log .ensures))
-    (omega (arith, put .0)) (put .2)
+    (omega (arith, put .0)) bytes
 
 same-length-2 : tie.Need-same-length-2
 same-length-2 c = search needs

@@ -11,7 +11,7 @@ use Rattle.forms.specs.Frame.{FrameTold, toldBy}
 use Rattle.forms.specs.declared.frame.FrameRead.{FrameRead}
 use Rattle.forms.proofs.Meaning.{frame-told}
 use Rattle.node.specs.Calls.{deliverNumber}
-use Rattle.node.specs.Describe.{lastTick}
+use Rattle.rules.specs.Describe.{lastTick}
 use Rattle.node.specs.Image.{layout, soundImage}
 use Rattle.node.proofs.Sound.{SoundBytes, sound-bytes, rows-inside}
 use Rattle.node.proofs.face.deliver_number.Statement.{statement}
@@ -21,7 +21,7 @@ returns : tie.Need-returns
 unfolding deliverNumber
 returns c =
     let a = c .before .before .before .args in
-    rw (lt-ltb (a .room) 192 (c .if1 .taken))
+    rw (lt-ltb (a .room) 192 (omega arith))
 
 is-sound-requires : tie.Need-is-sound-requires
 is-sound-requires c κs = search needs

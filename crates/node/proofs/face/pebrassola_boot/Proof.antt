@@ -11,8 +11,9 @@ use Rattle.forms.specs.Form.{linesOf, faultsOf, ownOf, formNumber, toldBy}
 use Rattle.forms.specs.declared.form.Form.{Form}
 use Rattle.forms.proofs.Told.{refusal, told-refused, form-length}
 use Rattle.node.specs.Calls.{bootNumber, freshState, booted}
+use Rattle.rules.specs.Describe.{bootRecords}
 use Rattle.node.specs.Image.{layout, putState}
-use Rattle.node.specs.Record.{putRecords}
+use Rattle.rules.specs.Record.{putRecords}
 use Rattle.node.proofs.Taken.{boot-refused, told-form, form-limits}
 use Rattle.node.proofs.face.pebrassola_boot.Statement.{statement}
 use Rattle.node.proofs.face.pebrassola_boot.Tie as tie
@@ -98,25 +99,36 @@ same-length c = search needs
 same-length-2 : tie.Need-same-length-2
 same-length-2 c = search needs
 
-returns-4 : tie.Need-returns-4
-unfolding booted bootNumber freshState putState putRecords
-returns-4 c =
-    let a = c .before .before .before .before .before .before .before .before .before .before .before .before .before .before .before .before .before .before .before .before .before .before .before .args in
-    let t = taken (c .before .before .before .before .before .before .before .before .before .before .before .before .before .before .before) in
+-- what is sent is echo 0 to all
+sent : (c : tie.After-put-record) → c .put-record .last .0 ≡ putRecords (now (c .before .before .before .before .before .before .before .before .before .before .before .before .before .before .before .before .before .before .before .before .before .args .out)) 0 bootRecords
+unfolding putRecords
+sent c = c .put-record .ensures
+
+-- the definition's outcome, with the bytes as the stores left them
+done : (c : tie.After-put-record) →
+    let a = c .before .before .before .before .before .before .before .before .before .before .before .before .before .before .before .before .before .before .before .before .before .args in
+    booted layout (now (a .form)) (now (a .image)) (now (a .out)) ≡ record { number = 0; records = 1; image = c .before .before .before .before .put-fresh-rows .last .0; out = c .put-record .last .0 }
+unfolding booted bootNumber freshState putState
+done c =
+    let a = c .before .before .before .before .before .before .before .before .before .before .before .before .before .before .before .before .before .before .before .before .before .args in
+    let t = taken (c .before .before .before .before .before .before .before .before .before .before .before .before .before) in
     rw (
       t .0,
       le-ltb (length (now (a .image))) (32 + linesOf (now (a .form)) * 28) (omega (
         arith,
-        c .before .before .before .before .before .before .before .before .before .before .before .before .before .before .if1 .left,
+        c .before .before .before .before .before .before .before .before .before .before .before .before .if1 .left,
         ap (λ (f : Form). f .lines) (t .1),
       )),
-      le-ltb (length (now (a .out))) 192 (c .before .before .before .before .before .before .before .before .before .before .before .before .before .if2 .left),
-      c .before .before .put-record .ensures,
-      c .before .before .before .before .before .before .put-fresh-rows .ensures,
-      c .before .before .before .before .before .before .before .before .before .before .put-node .ensures,
-      c .before .before .before .before .before .before .before .before .before .before .before .new .ensures,
+      le-ltb (length (now (a .out))) 192 (c .before .before .before .before .before .before .before .before .before .before .before .if2 .left),
+      sent c,
+      c .before .before .before .before .put-fresh-rows .ensures,
+      c .before .before .before .before .before .before .before .before .put-node .ensures,
+      c .before .before .before .before .before .before .before .before .before .new .ensures,
       t .1,
     )
+
+returns-4 : tie.Need-returns-4
+returns-4 c = sym (done (c .before .before))
 
 pub pebrassola-boot-spec : {M : Type 1} → statement M
 pebrassola-boot-spec =

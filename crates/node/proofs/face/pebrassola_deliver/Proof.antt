@@ -6,12 +6,14 @@ use native.Mathlib.Omega.{arith}
 use denote.Ref.{now}
 use lib.ListN.{length, getD}
 use borrow.Author.Tests.{ne-eqb}
-use Rattle.forms.specs.Field.{field}
+use Rattle.fields.specs.Field.{field}
+use Rattle.evidence.specs.Rows.{putRows, credit}
 use Rattle.node.specs.Calls.{deliverNumber, deliveryOf, imageAfter, deliverOutcome}
-use Rattle.node.specs.Describe.{window, lastTick}
-use Rattle.node.specs.Image.{layout, nodeOf, stateOf}
-use Rattle.node.specs.Steps.{DeliveredAs}
-use Rattle.node.proofs.Modes.{InMode, mode-kept, delivered-keeps}
+use Rattle.rules.specs.Delivery.{delivered}
+use Rattle.rules.specs.Describe.{window, lastTick}
+use Rattle.node.specs.Image.{layout, nodeOf, rowsOf, stateOf}
+use Rattle.rules.specs.Steps.{DeliveredAs}
+use Rattle.rules.proofs.Modes.{InMode, mode-kept, delivered-keeps}
 use Rattle.node.proofs.Sound.{SoundBytes, sound-bytes, sound-rows, sound-once}
 use Rattle.node.proofs.Taken.{Taken, deliver-taken, frame-whole}
 use Rattle.node.proofs.face.pebrassola_deliver.Statement.{statement}
@@ -46,11 +48,11 @@ sound c = sound-bytes layout lastTick (now (c .before .before .before .before .b
 whole : (c : tie.Else1) → length (now (c .before .before .before .before .before .before .args .frame)) ≡ 8
 whole c = frame-whole lastTick (now (c .before .before .before .before .before .before .args .frame)) (taken c .shape) .size
 
-shared-slice-read-t13 : tie.Need-shared-slice-read-t13
-shared-slice-read-t13 c = omega (arith, whole (c .before))
+shared-slice-read-t14 : tie.Need-shared-slice-read-t14
+shared-slice-read-t14 c = omega (arith, whole (c .before))
 
-cast-t14 : tie.Need-cast-t14
-cast-t14 c = omega (arith, c .shared-slice-known2 .given 0)
+cast-t15 : tie.Need-cast-t15
+cast-t15 c = omega (arith, c .shared-slice-known2 .given 0)
 
 word-requires : tie.Need-word-requires
 word-requires c κs = omega (arith, whole (c .before))
@@ -58,13 +60,22 @@ word-requires c κs = omega (arith, whole (c .before))
 read-node-requires : tie.Need-read-node-requires
 read-node-requires c κs = sound (c .before .before .before) .header
 
+-- a sound image has no serial twice, whichever port is meant; that it is the call's shows in `credited`
 deliver-requires : tie.Need-deliver-requires
 unfolding nodeOf
 deliver-requires c κs =
     let a = c .before .before .before .before .before .before .before .before .before .before .before .before .args in
     let h = sound (c .before .before .before .before .before .before) in
     rw (c .before .before .read-node .ensures)
-    (sound-rows lastTick (now (a .image)) h, taken (c .before .before .before .before .before .before) .room, sound-once lastTick (now (a .image)) h (a .port))
+    (sound-rows lastTick (now (a .image)) h, taken (c .before .before .before .before .before .before) .room, sound-once lastTick (now (a .image)) h _)
+
+-- the frame is credited to the port's row
+credited : (c : tie.After-deliver) →
+    let a = c .before .before .before .before .before .before .before .before .before .before .before .before .before .args in
+    c .deliver .last .1 .0 ≡ putRows 8 (now (a .image)) 32 (credit window (a .port) (getD (now (a .frame)) 0 0) (field 4 (now (a .frame)) 4) (rowsOf layout (now (a .image))))
+unfolding delivered nodeOf
+credited c =
+    rw (c .before .before .before .read-node .ensures, c .before .before .before .before .before .word .ensures) at (c .deliver .ensures .rows)
 
 -- what the engine promises is the delivery of the definition
 done : (c : tie.After-deliver) →
@@ -89,8 +100,8 @@ put-clock-requires c κs =
       mode (c .before .before .before .before .before),
     )
 
-cast-t14-2 : tie.Need-cast-t14-2
-cast-t14-2 c = search needs
+cast-t15-2 : tie.Need-cast-t15-2
+cast-t15-2 c = search needs
 
 same-length-2 : tie.Need-same-length-2
 same-length-2 c = search needs
@@ -99,14 +110,15 @@ same-length-3 : tie.Need-same-length-3
 same-length-3 c = search needs
 
 returns-2 : tie.Need-returns-2
-unfolding deliverOutcome imageAfter
+unfolding deliverOutcome imageAfter deliveryOf delivered stateOf
 returns-2 c =
-    let d = done (c .before .before .before .before .before .before .before .before .before) in
+    let engine = c .before .before .before .before .before .before .before .before .before in
+    let d = done engine in
     rw (
       success (c .before .before .before .before .before .before .before .before .before .before .before .before .before .before .before .before),
       c .before .before .before .put-clock .ensures,
       d .node,
-      d .rows,
+      credited engine,
       d .records,
       d .bytes,
     )
@@ -118,13 +130,13 @@ pebrassola-deliver-spec =
     deliver-number-requires
     same-length
     returns
-    shared-slice-read-t13
-    cast-t14
+    shared-slice-read-t14
+    cast-t15
     word-requires
     read-node-requires
     deliver-requires
     put-clock-requires
-    cast-t14-2
+    cast-t15-2
     same-length-2
     same-length-3
     returns-2)

@@ -7,8 +7,9 @@ use native.Mathlib.Omega.{arith}
 use denote.Ref.{now}
 use lib.ListN.{getD}
 use borrow.Author.Tests.{eq-eqb, ne-eqb, not-true, not-false}
+use Rattle.fields.specs.Field.{field}
 use Rattle.node.specs.Calls.{readNumber, reading}
-use Rattle.node.specs.Describe.{lastTick}
+use Rattle.rules.specs.Describe.{lastTick}
 use Rattle.node.specs.Image.{layout, soundImage}
 use Rattle.node.proofs.Sound.{SoundBytes, sound-bytes}
 use Rattle.node.proofs.face.pebrassola_read.Statement.{statement}
@@ -41,11 +42,9 @@ word-requires c κs = omega (arith, facts (c .before .before) .header)
 returns-3 : tie.Need-returns-3
 unfolding reading readNumber
 returns-3 c =
-    rw (
-      sound (c .before .before .before),
-      ne-eqb (getD (now (c .before .before .before .before .before .before .args .image)) 2 0) 0 (omega arith),
-      c .word .ensures,
-    )
+    let image = now (c .before .before .before .before .before .before .args .image) in
+    let clock : c .word .result ≡ field 4 image 8 = omega arith in
+    rw (sound (c .before .before .before), ne-eqb (getD image 2 0) 0 (omega arith), clock)
 
 pub pebrassola-read-spec : {M : Type 1} → statement M
 pebrassola-read-spec =

@@ -10,7 +10,7 @@ use denote.Ref.{now}
 use lib.ListN.{getD}
 use lib.Dec.{eqb}
 use borrow.Author.Tests.{eq-eqb, ne-eqb}
-use Rattle.forms.specs.Field.{field}
+use Rattle.fields.specs.Field.{field}
 use Rattle.node.specs.Image.{layout, fixedHeader}
 use Rattle.node.proofs.image.has_fixed_header.Statement.{statement}
 use Rattle.node.proofs.image.has_fixed_header.Tie as tie

@@ -9,9 +9,9 @@ use native.Mathlib.Omega.{arith}
 use denote.Enum.Declared.{tagOf}
 use types.Run.{OneOf}
 use Rattle.node.specs.Image.{atRest}
-use Rattle.node.specs.declared.node.Rule.{Rule}
-use Rattle.node.specs.declared.node.Rule.the-variants.{Rest, Echo, Tick, Jump, Wake}
-use Rattle.node.proofs.node.Rule.{the-type}
+use Rattle.rules.specs.declared.node.Rule.{Rule}
+use Rattle.rules.specs.declared.node.Rule.the-variants.{Rest, Echo, Tick, Jump, Wake}
+use Rattle.rules.proofs.node.Rule.{the-type}
 use Rattle.node.proofs.image.is_at_rest.Statement.{statement}
 use Rattle.node.proofs.image.is_at_rest.Tie as tie
 

@@ -7,11 +7,11 @@ use native.Mathlib.Omega.{arith}
 use denote.Ref.{now}
 use lib.ListN.{length}
 use borrow.Author.Tests.{lt-ltb, le-ltb, not-true, not-false}
-use Rattle.forms.specs.Field.{field}
+use Rattle.fields.specs.Field.{field}
 use Rattle.evidence.specs.Rows.{rowsAt}
-use Rattle.node.specs.Describe.{window, lastTick}
+use Rattle.rules.specs.Describe.{window, lastTick}
 use Rattle.node.specs.Image.{layout, nodeOf, stateOf, fixedHeader, soundState, soundImage}
-use Rattle.node.specs.declared.node.Node.{Node}
+use Rattle.rules.specs.declared.node.Node.{Node}
 use Rattle.node.proofs.Sound.{rows-inside}
 use Rattle.node.proofs.image.is_sound.Statement.{statement}
 use Rattle.node.proofs.image.is_sound.Tie as tie

@@ -7,14 +7,15 @@ use mathlib.Core.List.{map}
 use native.Mathlib.Omega.{arith}
 use denote.Ref.{now}
 use borrow.Author.Tests.{le-leb, lt-leb, not-true, not-false}
+use lib.Dec.{leb}
 use Rattle.forms.specs.Number.{verdictOf}
 use Rattle.forms.specs.Roster.{rosterNumber}
 use Rattle.forms.proofs.Told.{refusal}
 use Rattle.evidence.specs.Rows.{Row, rowsAt, properRows}
 use Rattle.evidence.proofs.Layouts.{serials-of-rows}
-use Rattle.node.specs.Describe.{window, lastTick}
+use Rattle.rules.specs.Describe.{window, lastTick}
 use Rattle.node.specs.Image.{atRest, soundState}
-use Rattle.node.specs.Rules.{firstRule}
+use Rattle.rules.specs.Rules.{firstRule}
 use Rattle.node.proofs.Sound.{rows-limits}
 use Rattle.node.proofs.image.is_sound_state.Statement.{statement}
 use Rattle.node.proofs.image.is_sound_state.Tie as tie
@@ -61,31 +62,25 @@ returns-3 c =
     let a = c .before .before .before .before .before .before .before .before .before .args in
     rw (roster (c .before .before .before .before), le-leb (a .node .mode) 1 (omega arith), lt-leb (a .node .sent) (a .node .tick) (omega arith))
 
-returns-4 : tie.Need-returns-4
+-- past the tests of mode and last echo
+ticks : (c : tie.Else2) →
+    let a = c .before .before .before .before .before .before .before .before .before .args in
+    let held = rowsAt 8 (a .node .lines) (now (a .b)) 32 in
+    soundState window lastTick (record { node = a .node; rows = held }) ≡ (leb (a .node .tick) lastTick && (properRows window lastTick held && atRest (firstRule window lastTick held (a .node))))
 unfolding soundState
-returns-4 c =
-    let a = c .before .before .before .before .before .before .before .before .before .before .before .args in
-    rw (
-      roster (c .before .before .before .before .before .before),
-      le-leb (a .node .mode) 1 (omega arith),
-      le-leb (a .node .sent) (a .node .tick) (omega arith),
-      lt-leb (a .node .tick) lastTick (omega arith),
-    )
+ticks c =
+    let a = c .before .before .before .before .before .before .before .before .before .args in
+    rw (roster (c .before .before .before .before), le-leb (a .node .mode) 1 (omega arith), le-leb (a .node .sent) (a .node .tick) (omega arith))
+
+returns-4 : tie.Need-returns-4
+returns-4 c = rw (ticks (c .before .before), lt-leb (c .before .before .before .before .before .before .before .before .before .before .before .args .node .tick) lastTick (omega arith))
 
 -- past the tests of the node only the rows and the rules are left
 rows : (c : tie.Else3) →
     let a = c .before .before .before .before .before .before .before .before .before .before .before .args in
     let held = rowsAt 8 (a .node .lines) (now (a .b)) 32 in
     soundState window lastTick (record { node = a .node; rows = held }) ≡ (properRows window lastTick held && atRest (firstRule window lastTick held (a .node)))
-unfolding soundState
-rows c =
-    let a = c .before .before .before .before .before .before .before .before .before .before .before .args in
-    rw (
-      roster (c .before .before .before .before .before .before),
-      le-leb (a .node .mode) 1 (omega arith),
-      le-leb (a .node .sent) (a .node .tick) (omega arith),
-      le-leb (a .node .tick) lastTick (omega arith),
-    )
+rows c = rw (ticks (c .before .before), le-leb (c .before .before .before .before .before .before .before .before .before .before .before .args .node .tick) lastTick (omega arith))
 
 are-proper-requires : tie.Need-are-proper-requires
 are-proper-requires c κs = search needs

@@ -7,11 +7,11 @@ use native.Mathlib.Nat.{sub-zero}
 use native.Mathlib.Omega.{arith}
 use denote.Ref.{now}
 use lib.ListN.{length}
-use Rattle.forms.specs.Field.{field, putField, words}
+use Rattle.fields.specs.Field.{field, putField, words}
 use Rattle.forms.proofs.Rosters.{words-step, words-end}
-use Rattle.evidence.specs.Ticks.{empty}
+use Rattle.sets.specs.Ticks.{empty}
 use Rattle.evidence.specs.Rows.{putSet, putRow, putRows}
-use Rattle.node.specs.Describe.{freshRows}
+use Rattle.rules.specs.Describe.{freshRows}
 use Rattle.node.proofs.image.put_fresh_rows.Statement.{statement}
 use Rattle.node.proofs.image.put_fresh_rows.Tie as tie
 

@@ -1,0 +1,37 @@
+// The two writers: number, length written, and every byte of the output afterwards. An output begins as bytes 0xee, so that a byte
+// that a refusal changes, or one behind what is written, shows. A remainder keeps the room within the array: no case asks for more
+// than the longest form.
+use crate::case::Case;
+use crate::say;
+use fields::field::word;
+use forms::form::write_form;
+use forms::frame::write_frame;
+
+// The serials in b, at most 260.
+fn serials(b: &[u8]) -> [u32; 260] {
+    let mut list = [0u32; 260];
+    let mut i = 0;
+    while i < 260 {
+        if b.len() < 4 * i + 4 {
+            return list;
+        }
+        list[i] = word(b, 4 * i);
+        i += 1;
+    }
+    list
+}
+
+pub(crate) fn run(framed: bool, case: Case, b: &[u8]) {
+    let room = case.room % 137;
+    let mut all = [0xeeu8; 136];
+    let out = &mut all[0..room];
+    if framed {
+        let answer = write_frame(case.kind, case.tick, case.last, out);
+        say::written(answer, out);
+    } else {
+        let list = serials(b);
+        let n = b.len() / 4 % 261;
+        let answer = write_form(case.count, case.serial, &list[0..n], out);
+        say::written(answer, out);
+    }
+}

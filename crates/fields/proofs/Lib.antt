@@ -1,0 +1,3 @@
+-- The laws of `fields` that belong to no single function.
+pub mod Fields
+pub mod Words

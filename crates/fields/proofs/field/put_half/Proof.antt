@@ -1,0 +1,35 @@
+-- `field::put_half` meets its contract: the two bytes written are those of the field.
+-- Assumes nothing.
+use borrow.Author.Needs.{needs}
+use native.Mathlib.Omega.{arith}
+use native.Mathlib.Nat.{add-zero}
+use lib.ListN.{length-set}
+use Rattle.fields.specs.Field.{putField}
+use Rattle.fields.proofs.field.put_half.Statement.{statement}
+use Rattle.fields.proofs.field.put_half.Tie as tie
+
+cast-b : tie.Need-cast-b
+cast-b c = search needs
+
+slice-write-b : tie.Need-slice-write-b
+slice-write-b c = search needs
+
+cast-b-2 : tie.Need-cast-b-2
+cast-b-2 c = search needs
+
+add-b : tie.Need-add-b
+add-b c = search needs
+
+slice-write-b-2 : tie.Need-slice-write-b-2
+slice-write-b-2 c = simp length-set (omega arith)
+
+same-length : tie.Need-same-length
+same-length c = search needs
+
+returns : tie.Need-returns
+unfolding putField
+returns c = simp add-zero
+
+pub put-half-spec : {M : Type 1} → statement M
+put-half-spec =
+    tie.close (tie.spec cast-b slice-write-b cast-b-2 add-b slice-write-b-2 same-length returns)

@@ -1,0 +1,2 @@
+// Big-endian numbers in lent bytes: the bottom layer, which every layout of document 01 stands on.
+pub mod field;

@@ -1,0 +1,6 @@
+-- The laws of `rules` that belong to no single function, and the settled examples.
+pub mod AtRest
+pub mod Firing
+pub mod Modes
+pub mod Records
+pub mod Worked

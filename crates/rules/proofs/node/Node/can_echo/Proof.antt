@@ -1,0 +1,75 @@
+-- `Node::can_echo` meets its contract: where echo k is unsent the two counts decide, one after the other.
+-- Assumes nothing.
+use borrow.Author.Needs.{needs}
+use mathlib.Core.Path.{_≡_}
+use mathlib.Core.Bool.{false, and-false}
+use Prim.Native.Nat.{_+_}
+use native.Mathlib.Omega.{arith}
+use borrow.Author.Tests.{lt-ltb, le-ltb, le-leb, lt-leb}
+use denote.Ref.{now}
+use Rattle.evidence.specs.Rows.{rowsAt}
+use Rattle.rules.specs.Describe.{window}
+use Rattle.rules.specs.Rules.{canR1}
+use Rattle.rules.proofs.node.Node.can_echo.Statement.{statement}
+use Rattle.rules.proofs.node.Node.can_echo.Tie as tie
+
+cast-n : tie.Need-cast-n
+cast-n c = search needs
+
+cast-f : tie.Need-cast-f
+cast-f c = search needs
+
+add-enough : tie.Need-add-enough
+add-enough c = search needs
+
+count-holders-requires : tie.Need-count-holders-requires
+count-holders-requires c κs = search needs
+
+returns : tie.Need-returns
+returns c =
+    let p = c .before .before .before .before .before .before .before .args .self in
+    rw (
+      ← c .before .count-holders .ensures .0,
+      le-leb (p .faults + 1) (c .before .count-holders .result) (omega arith),
+      lt-ltb (p .sent) (p .tick) (omega arith),
+    )
+
+count-holders-requires-2 : tie.Need-count-holders-requires-2
+count-holders-requires-2 c κs = search needs
+
+-- past the test of inits R1 cannot fire
+no-init : (c : tie.Else2) → let a = c .before .before .before .before .before .before .before .args in canR1 window (a .self) (rowsAt 8 (a .self .lines) (now (a .b)) (a .i)) ≡ false
+no-init c = rw (← c .before .count-holders .ensures .0, lt-leb (c .before .before .before .before .before .before .before .args .self .faults + 1) (c .before .count-holders .result) (omega arith))
+
+returns-2 : tie.Need-returns-2
+returns-2 c =
+    let p = c .before .before .before .before .before .before .before .before .before .args .self in
+    rw (
+      no-init (c .before .before),
+      ← c .before .count-holders2 .ensures .0,
+      le-leb (p .faults + 1) (c .before .count-holders2 .result) (omega arith),
+      lt-ltb (p .sent) (p .tick) (omega arith),
+    )
+
+returns-3 : tie.Need-returns-3
+returns-3 c =
+    let p = c .before .before .before .before .before .before .before .before .before .args .self in
+    rw (no-init (c .before .before), ← c .before .count-holders2 .ensures .0, lt-leb (p .faults + 1) (c .before .count-holders2 .result) (omega arith))
+
+returns-4 : tie.Need-returns-4
+returns-4 c =
+    let p = c .before .before .before .before .before .args .self in simp (le-ltb (p .sent) (p .tick) (omega arith), and-false)
+
+pub can-echo-spec : {M : Type 1} → statement M
+can-echo-spec =
+    tie.close
+    (tie.spec
+    cast-n
+    cast-f
+    add-enough
+    count-holders-requires
+    returns
+    count-holders-requires-2
+    returns-2
+    returns-3
+    returns-4)

@@ -1,0 +1,34 @@
+-- `Node::can_tick` meets its contract: below the last tick the count of holders decides. The `refl` is written out because a refusal then
+-- shows where the two sides differ. Assumes nothing.
+use borrow.Author.Needs.{needs}
+use mathlib.Core.Path.{refl}
+use mathlib.Core.Bool.{and-true, and-false}
+use native.Mathlib.Omega.{arith}
+use borrow.Author.Tests.{lt-ltb, le-ltb}
+use Rattle.rules.proofs.node.Node.can_tick.Statement.{statement}
+use Rattle.rules.proofs.node.Node.can_tick.Tie as tie
+
+cast-n : tie.Need-cast-n
+cast-n c = search needs
+
+cast-enough : tie.Need-cast-enough
+cast-enough c = search needs
+
+sub-enough : tie.Need-sub-enough
+sub-enough c = search needs
+
+count-holders-requires : tie.Need-count-holders-requires
+count-holders-requires c κs = search needs
+
+returns : tie.Need-returns
+returns c =
+    let p = c .before .before .before .before .before .args .self in
+    rw (← c .count-holders .ensures .0, lt-ltb (p .tick) 4000000000 (omega arith), and-true) refl
+
+returns-2 : tie.Need-returns-2
+returns-2 c =
+    let p = c .before .before .before .before .args .self in rw (le-ltb (p .tick) 4000000000 (omega arith), and-false)
+
+pub can-tick-spec : {M : Type 1} → statement M
+can-tick-spec =
+    tie.close (tie.spec cast-n cast-enough sub-enough count-holders-requires returns returns-2)

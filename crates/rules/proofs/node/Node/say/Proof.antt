@@ -1,0 +1,145 @@
+-- `Node::say` meets its contract, rule by rule: each says one record or none, and that goes behind the records that are there.
+-- Assumes nothing.
+use borrow.Author.Needs.{needs}
+use mathlib.Core.Path.{refl}
+use native.Mathlib.Omega.{arith}
+use borrow.Author.Tests.{lt-ltb, le-ltb}
+use Rattle.rules.specs.Record.{putRecords}
+use Rattle.rules.specs.Rules.{said}
+use Rattle.rules.proofs.node.Node.say.Statement.{statement}
+use Rattle.rules.proofs.node.Node.say.Tie as tie
+
+enum-told : tie.Need-enum-told
+enum-told c = search needs
+
+enum-told-2 : tie.Need-enum-told-2
+enum-told-2 c = search needs
+
+mul-put-record : tie.Need-mul-put-record
+mul-put-record c = search needs
+
+put-record-requires : tie.Need-put-record-requires
+put-record-requires c κs = search needs
+
+add-result : tie.Need-add-result
+add-result c = search needs
+
+enum-told-3 : tie.Need-enum-told-3
+enum-told-3 c = search needs
+
+mul-put-record-2 : tie.Need-mul-put-record-2
+mul-put-record-2 c = search needs
+
+add-put-record : tie.Need-add-put-record
+add-put-record c = omega (arith, rw (c .before .before .enum-told3 .given .1) at (c .before .before .before .before .before .pre .0))
+
+put-record-requires-2 : tie.Need-put-record-requires-2
+put-record-requires-2 c κs = search needs
+
+add-result-2 : tie.Need-add-result-2
+add-result-2 c = search needs
+
+enum-known-rule : tie.Need-enum-known-rule
+enum-known-rule c = search needs
+
+mul-put-record-3 : tie.Need-mul-put-record-3
+mul-put-record-3 c = search needs
+
+sub-put-record : tie.Need-sub-put-record
+sub-put-record c = omega (arith, rw (c .before .before .rule .given .1) at (c .before .before .before .before .before .pre .0))
+
+put-record-requires-3 : tie.Need-put-record-requires-3
+put-record-requires-3 c κs = search needs
+
+add-result-3 : tie.Need-add-result-3
+add-result-3 c = search needs
+
+enum-known-rule-2 : tie.Need-enum-known-rule-2
+enum-known-rule-2 c = search needs
+
+woken-requires : tie.Need-woken-requires
+woken-requires c κs = search needs
+
+mul-put-record-4 : tie.Need-mul-put-record-4
+mul-put-record-4 c = search needs
+
+put-record-requires-4 : tie.Need-put-record-requires-4
+put-record-requires-4 c κs = search needs
+
+add-result-4 : tie.Need-add-result-4
+add-result-4 c = search needs
+
+same-length : tie.Need-same-length
+same-length c = search needs
+
+returns : tie.Need-returns
+unfolding said putRecords
+returns c =
+    rw (c .before .before .before .before .before .before .before .before .rule2 .given .1, ← c .before .before .before .before .before .before .woken .ensures, lt-ltb (c .before .before .before .before .before .before .before .before .before .before .before .args .self .sent) (c .before .before .before .before .before .before .woken .result) (c .before .before .before .before .if1 .taken))
+    (refl, omega arith, c .before .before .put-record4 .ensures)
+
+returns-2 : tie.Need-returns-2
+unfolding said putRecords
+returns-2 c = rw (c .enum-told .given .1) (omega arith, omega arith, refl)
+
+same-length-2 : tie.Need-same-length-2
+same-length-2 c = search needs
+
+returns-3 : tie.Need-returns-3
+unfolding said putRecords
+returns-3 c = rw (c .before .before .before .before .enum-told2 .given .1) (refl, omega arith, c .before .before .put-record .ensures)
+
+same-length-3 : tie.Need-same-length-3
+same-length-3 c = search needs
+
+returns-4 : tie.Need-returns-4
+unfolding said putRecords
+returns-4 c = rw (c .before .before .before .before .before .enum-told3 .given .1) (refl, omega arith, c .before .before .put-record2 .ensures)
+
+same-length-4 : tie.Need-same-length-4
+same-length-4 c = search needs
+
+returns-5 : tie.Need-returns-5
+unfolding said putRecords
+returns-5 c = rw (c .before .before .before .before .before .rule .given .1) (refl, omega arith, c .before .before .put-record3 .ensures)
+
+returns-6 : tie.Need-returns-6
+unfolding said putRecords
+returns-6 c =
+    rw (c .before .before .before .before .rule2 .given .1, ← c .before .before .woken .ensures, le-ltb (c .before .before .before .before .before .before .before .args .self .sent) (c .before .before .woken .result) (c .if1 .left))
+    (omega arith, omega arith, refl)
+
+pub say-spec : {M : Type 1} → statement M
+say-spec =
+    tie.close
+    (tie.spec
+    enum-told
+    enum-told-2
+    mul-put-record
+    put-record-requires
+    add-result
+    enum-told-3
+    mul-put-record-2
+    add-put-record
+    put-record-requires-2
+    add-result-2
+    enum-known-rule
+    mul-put-record-3
+    sub-put-record
+    put-record-requires-3
+    add-result-3
+    enum-known-rule-2
+    woken-requires
+    mul-put-record-4
+    put-record-requires-4
+    add-result-4
+    same-length
+    returns
+    returns-2
+    same-length-2
+    returns-3
+    same-length-3
+    returns-4
+    same-length-4
+    returns-5
+    returns-6)

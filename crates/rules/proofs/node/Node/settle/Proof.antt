@@ -1,0 +1,147 @@
+-- `Node::settle` meets its contract: what is said so far with what settling says from here on is what settling says from the start.
+-- Assumes nothing.
+use borrow.Author.Needs.{needs}
+use mathlib.Core.Path.{_≡_, refl, sym, ap, _∙_, subst}
+use mathlib.Core.List.{List}
+use Prim.Native.Nat.{ℕ, _+_, _-_, _*_, _≤_, _<_}
+use native.Mathlib.Nat.{add-zero}
+use native.Mathlib.Omega.{arith}
+use denote.Ref.{now}
+use lib.ListN.{length, length-append}
+use Rattle.evidence.specs.Rows.{Row, rowsAt}
+use Rattle.rules.specs.Describe.{window, lastTick}
+use Rattle.rules.specs.Record.{putRecords}
+use Rattle.rules.specs.Rules.{Settled, firstRule, CanFire, fired, said, settle}
+use Rattle.rules.specs.Steps.{SettledAs}
+use Rattle.rules.specs.declared.node.Node.{Node}
+use Rattle.rules.specs.declared.node.Rule.{Rule}
+use Rattle.rules.proofs.Firing.{can-fire, said-few, Same, same-trans, fired-same, still, settle-none, settle-rest, settle-down}
+use Rattle.rules.proofs.Records.{length-putRecords, put-records-none, put-records-behind}
+use Rattle.rules.proofs.node.Node.settle.Statement.{statement}
+use Rattle.rules.proofs.node.Node.settle.Tie as tie
+
+-- at most c firings of p over these rows
+abbrev from : List Row → ℕ → Node → Settled
+from rows c p = settle window lastTick rows c p
+
+-- where a turn begins: a node, its count of records and the firings left, against those of the start
+record Settling (rows : List Row) (start : ℕ) (out₀ : List ℕ) (p₀ : Node) (out : List ℕ) (p : Node) (records left : ℕ) : Type 0 where
+  node : from rows left p .node ≡ from rows 15 p₀ .node
+  count : records + length (from rows left p .records) ≡ start + length (from rows 15 p₀ .records)
+  bytes : putRecords out (12 * records) (from rows left p .records) ≡ putRecords out₀ (12 * start) (from rows 15 p₀ .records)
+  few : records + left ≤ start + 15
+  same : Same p p₀
+  room : length out ≡ length out₀
+
+-- at rest all is said
+ended : {rows : List Row} {start : ℕ} {out₀ : List ℕ} {p₀ : Node} {out : List ℕ} {p : Node} {records left : ℕ} → Settling rows start out₀ p₀ out p records left → from rows left p ≡ still p → SettledAs (from rows 15 p₀) start out₀ (record { node = p; records = records }) out
+ended {rows} {start} {out₀} {p₀} {out} {p} {records} {left} h e =
+    record {
+      node = sym (ap (λ (s : Settled). s .node) e) ∙ h .node;
+      records = sym (add-zero records) ∙ sym (ap (λ (s : Settled). records + length (s .records)) e) ∙ h .count;
+      bytes = sym (put-records-none out (12 * records)) ∙ sym (ap (λ (s : Settled). putRecords out (12 * records) (s .records)) e) ∙ h .bytes;
+    }
+
+-- a firing more
+fires : {rows : List Row} {start : ℕ} {out₀ : List ℕ} {p₀ : Node} {out : List ℕ} {p : Node} {records left : ℕ} → Settling rows start out₀ p₀ out p records left → 0 < left → (rule : Rule) → rule ≡ firstRule window lastTick rows p → Settling rows start out₀ p₀ (putRecords out (12 * records) (said p rule)) (fired p rule) (records + length (said p rule)) (left - 1)
+fires {rows} {start} {out₀} {p₀} {out} {p} {records} {left} h l rule e =
+    let first = firstRule window lastTick rows p in
+    let next = from rows (left - 1) (fired p first) in
+    let down = settle-down window lastTick rows left p l in
+    subst (λ (r : Rule). Settling rows start out₀ p₀ (putRecords out (12 * records) (said p r)) (fired p r) (records + length (said p r)) (left - 1)) (sym e)
+    (record {
+      node = sym (down .node) ∙ h .node;
+      count = omega (arith, ap length (down .records), length-append (said p first) (next .records));
+      bytes = sym (put-records-behind out records (records + length (said p first)) (said p first) (next .records) refl) ∙ ap (putRecords out (12 * records)) (sym (down .records)) ∙ h .bytes;
+      few = omega (arith, said-few p first);
+      same = same-trans (fired-same p first) (h .same);
+      room = length-putRecords out (12 * records) (said p first) ∙ h .room;
+    })
+
+abbrev Inv-loop : tie.InvT-loop
+Inv-loop b i out₀ start node₀ records₀ left₀ out node records left = Settling (rowsAt 8 (node₀ .lines) b i) start out₀ node₀ out node records left
+
+abbrev μ-loop : tie.MeasureT-loop
+μ-loop b i out₀ start node₀ records₀ left₀ out node records left = left
+
+loop-holds : tie.Need-loop-holds Inv-loop μ-loop
+loop-holds c = record { node = refl; count = refl; bytes = refl; few = omega arith; same = record { lines = refl; faults = refl; own = refl }; room = refl }
+
+rule-requires : tie.Need-rule-requires Inv-loop μ-loop
+rule-requires c κs = omega arith
+
+-- the rule is the first that can fire, over the rows as they were at the start
+first : (c : tie.After-rule Inv-loop μ-loop) → let a = c .before .before .before .before .before .args in c .rule .result ≡ firstRule window lastTick (rowsAt 8 (a .self .lines) (now (a .b)) (a .i)) (c .before .before .loop .node)
+first c =
+    let a = c .before .before .before .before .before .args in
+    let l = c .before .before .loop in
+    c .rule .ensures ∙ ap (λ (n : ℕ). firstRule window lastTick (rowsAt 8 n (now (a .b)) (a .i)) (l .node)) (l .inv .same .lines)
+
+can : (c : tie.After-rule Inv-loop μ-loop) → CanFire lastTick (c .before .before .loop .node) (c .rule .result)
+can c =
+    let a = c .before .before .before .before .before .args in
+    let p = c .before .before .loop .node in
+    subst (CanFire lastTick p) (sym (first c)) (can-fire window lastTick (rowsAt 8 (a .self .lines) (now (a .b)) (a .i)) p)
+
+enum-told : tie.Need-enum-told Inv-loop μ-loop
+enum-told c = search needs
+
+same-length : tie.Need-same-length Inv-loop μ-loop
+same-length c = c .before .before .before .before .loop .inv .room
+
+returns : tie.Need-returns Inv-loop μ-loop
+returns c =
+    let a = c .before .before .before .before .before .before .before .args in
+    let l = c .before .before .before .before .loop in
+    (ended (l .inv) (settle-rest window lastTick (rowsAt 8 (a .self .lines) (now (a .b)) (a .i)) (l .left) (l .node) (sym (first (c .before .before)) ∙ c .enum-told .given .1)), omega arith)
+
+-- by search, which meets it for any rule: that the rule said is the first one shows in `counted`
+say-requires : tie.Need-say-requires Inv-loop μ-loop
+say-requires c κs = search (needs, can (c .before .before))
+
+fire-requires : tie.Need-fire-requires Inv-loop μ-loop
+fire-requires c κs = can (c .before .before .before .before .before)
+
+sub-left : tie.Need-sub-left Inv-loop μ-loop
+sub-left c = search needs
+
+loop-less : tie.Need-loop-less Inv-loop μ-loop
+loop-less c = search needs
+
+-- the count goes up by what the rule says
+counted : (c : tie.After-say Inv-loop μ-loop) → let l = c .before .before .before .before .before .loop in c .say .result ≡ l .records + length (said (l .node) (c .before .before .before .rule .result))
+counted c = omega arith
+
+loop-again : tie.Need-loop-again Inv-loop μ-loop
+loop-again c =
+    rw (c .fire .ensures, counted (c .before .before .before), c .before .before .before .say .ensures .2) (fires (c .before .before .before .before .before .before .before .before .loop .inv) (c .before .before .before .before .before .before .before .loop-test .taken) (c .before .before .before .before .before .before .rule .result) (first (c .before .before .before .before .before .before)))
+
+same-length-2 : tie.Need-same-length-2 Inv-loop μ-loop
+same-length-2 c = c .before .loop .inv .room
+
+returns-2 : tie.Need-returns-2 Inv-loop μ-loop
+returns-2 c =
+    let a = c .before .before .before .before .args in
+    let l = c .before .loop in
+    let rows = rowsAt 8 (a .self .lines) (now (a .b)) (a .i) in
+    let none : l .left ≡ 0 = omega arith in
+    (ended (l .inv) (ap (λ (n : ℕ). from rows n (l .node)) none ∙ settle-none window lastTick rows (l .node)), omega arith)
+
+pub settle-spec : {M : Type 1} → statement M
+settle-spec =
+    tie.close
+    (tie.spec
+    Inv-loop
+    μ-loop
+    loop-holds
+    rule-requires
+    enum-told
+    same-length
+    returns
+    say-requires
+    fire-requires
+    sub-left
+    loop-less
+    loop-again
+    same-length-2
+    returns-2)

@@ -1,0 +1,5 @@
+pub mod Delivery
+pub mod Describe
+pub mod Record
+pub mod Rules
+pub mod Steps

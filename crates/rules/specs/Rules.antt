@@ -1,0 +1,105 @@
+-- The rules of Figure 1 as document 01 fixes them ("One delivery"): R1 to R5 as conditions and effects, the first that can
+-- fire, and firing until none can. While rules fire the evidence stands still, so a rule looks at rows through counts alone.
+-- w is the window, last the last tick; p is the node (n lines, f faults, k its tick, the last echo sent).
+use Prim.Native.Nat.{ℕ, zero, suc, _+_, _-_, _<_, max}
+use mathlib.Core.List.{List, [], _∷_, _++_}
+use mathlib.Core.Bool.{Bool, cond, _&&_}
+use lib.Dec.{ltb, leb, eqb}
+use Rattle.evidence.specs.Rows.{Row}
+use Rattle.evidence.specs.Holders.{holders, greatest}
+use Rattle.rules.specs.Record.{Outgoing, broadcast}
+use Rattle.rules.specs.declared.node.Node.{Node}
+use Rattle.rules.specs.declared.node.Rule.{Rule}
+use Rattle.rules.specs.declared.node.Rule.the-variants.{Rest, Echo, Tick, Jump, Wake}
+
+-- ---- conditions
+
+abbrev pub unsent : Node → Bool
+unsent p = ltb (p .sent) (p .tick)
+
+-- R1: (init, k) held by f + 1 and echo k unsent
+abbrev pub canR1 : ℕ → Node → List Row → Bool
+canR1 w p rows = leb (p .faults + 1) (holders w 1 (p .tick) rows) && unsent p
+
+-- R2: (echo, k) held by f + 1 and echo k unsent
+abbrev pub canR2 : ℕ → Node → List Row → Bool
+canR2 w p rows = leb (p .faults + 1) (holders w 2 (p .tick) rows) && unsent p
+
+-- R3: (echo, k) held by n - f and k below the last tick
+abbrev pub canR3 : ℕ → ℕ → Node → List Row → Bool
+canR3 w last p rows = leb (p .lines - p .faults) (holders w 2 (p .tick) rows) && ltb (p .tick) last
+
+-- R4: the greatest l > k + 1 with (echo, l) held by f + 1, as l + 1; 0 where there is none
+abbrev pub jumpTo : ℕ → Node → List Row → ℕ
+jumpTo w p rows = greatest w 2 (p .faults + 1) (p .tick + 2) rows
+
+-- R5: passive, and the greatest x with (init, x) held by f + 1, as x + 1; 0 where there is none
+abbrev pub wakeAt : ℕ → Node → List Row → ℕ
+wakeAt w p rows = cond (eqb (p .mode) 0) (greatest w 1 (p .faults + 1) 0 rows) 0
+
+abbrev pub orWake : ℕ → Rule
+orWake zero = Rest
+orWake (suc x) = Wake x
+
+abbrev pub orJump : ℕ → Rule → Rule
+orJump zero rule = rule
+orJump (suc l) rule = Jump l
+
+-- the first rule of the list that can fire. R1 and R2 have the same effect
+unfoldable pub firstRule : ℕ → ℕ → List Row → Node → Rule
+firstRule w last rows p =
+    cond (canR1 w p rows) Echo
+    (cond (canR2 w p rows) Echo
+    (cond (canR3 w last p rows) Tick
+    (orJump (jumpTo w p rows) (orWake (wakeAt w p rows)))))
+
+-- ---- effects
+
+-- what a rule that can fire says of the node: below the last tick before a tick, and no jump to 0
+abbrev pub CanFire : ℕ → Node → Rule → Type 0
+CanFire last p Rest = Unit {0}
+CanFire last p Echo = Unit {0}
+CanFire last p Tick = p .tick < last
+CanFire last p (Jump l) = 0 < l
+CanFire last p (Wake x) = Unit {0}
+
+-- the tick that R5 at x takes: the larger of x - 1 and k; x = 0 keeps k
+abbrev pub woken : Node → ℕ → ℕ
+woken p x = max (x - 1) (p .tick)
+
+unfoldable pub fired : Node → Rule → Node
+fired p Rest = p
+fired p Echo = record { lines = p .lines; faults = p .faults; own = p .own; mode = p .mode; tick = p .tick; sent = p .tick }
+fired p Tick = record { lines = p .lines; faults = p .faults; own = p .own; mode = p .mode; tick = p .tick + 1; sent = p .sent }
+fired p (Jump l) = record { lines = p .lines; faults = p .faults; own = p .own; mode = p .mode; tick = l - 1; sent = l - 1 }
+fired p (Wake x) = record { lines = p .lines; faults = p .faults; own = p .own; mode = 1; tick = woken p x; sent = max (p .sent) (woken p x) }
+
+unfoldable pub said : Node → Rule → List Outgoing
+said p Rest = []
+said p Echo = broadcast 2 (p .tick) ∷ []
+said p Tick = broadcast 1 (p .tick + 1) ∷ []
+said p (Jump l) = broadcast 2 (l - 1) ∷ []
+said p (Wake x) = cond (ltb (p .sent) (woken p x)) (broadcast 2 (woken p x) ∷ []) []
+
+-- ---- firing until none can
+
+pub record Settled : Type 0 where
+  pub node : Node
+  pub records : List Outgoing
+  pub firings : ℕ
+
+-- what follows a firing, in front of what came of the rest
+unfoldable pub firing : Node → Rule → Settled → Settled
+firing p Rest next = record { node = p; records = []; firings = 0 }
+firing p Echo next = record { node = next .node; records = said p Echo ++ next .records; firings = suc (next .firings) }
+firing p Tick next = record { node = next .node; records = said p Tick ++ next .records; firings = suc (next .firings) }
+firing p (Jump l) next = record { node = next .node; records = said p (Jump l) ++ next .records; firings = suc (next .firings) }
+firing p (Wake x) next = record { node = next .node; records = said p (Wake x) ++ next .records; firings = suc (next .firings) }
+
+-- at most c firings. With c = 15 the count never decides, from a sound image: proofs/AtRest.antt and proofs/Stays.antt
+unfoldable pub settle : ℕ → ℕ → List Row → ℕ → Node → Settled
+settle w last rows zero p = record { node = p; records = []; firings = 0 }
+settle w last rows (suc c) p =
+    let rule = firstRule w last rows p in
+    let next = settle w last rows c (fired p rule) in
+    firing p rule next

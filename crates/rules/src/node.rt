@@ -1,0 +1,260 @@
+// A node by value: its place on the roster and its clock. The evidence lies in lent bytes, n rows from place i of a buffer on, and is
+// looked at where it lies, so a node costs six words of stack however many rows there are. The methods but `new` are joints
+// between layers: the caller has checked that the rows lie inside the buffer and that there is room for 16 records.
+use crate::record::put_record;
+use evidence::rows::count_holders;
+use evidence::rows::credit_row;
+use forms::frame::Frame;
+use search::greatest::find_greatest;
+ghost use mathlib.Core.Path.{_≡_};
+ghost use mathlib.Core.Bool.{_||_};
+ghost use Prim.Native.Nat.{_+_, _*_, _≤_, _<_, max};
+ghost use lib.ListN.{length};
+ghost use Rattle.fields.specs.Field.{words};
+ghost use Rattle.forms.specs.Roster.{count};
+ghost use Rattle.evidence.specs.Rows.{rowsAt, putRows};
+ghost use Rattle.rules.specs.Describe.{window, lastTick, freshNode};
+ghost use Rattle.rules.specs.Record.{putRecords};
+ghost use Rattle.rules.specs.Rules.{canR1, canR2, canR3, jumpTo, wakeAt, orJump, orWake, firstRule, CanFire, woken, fired, said, settle};
+ghost use Rattle.rules.specs.Delivery.{State, answer, delivered};
+ghost use Rattle.rules.specs.Steps.{RowsIn, SettledAs, DeliveredAs};
+
+// The rule that fires next: none, R1 or R2, R3, R4 to tick l, R5 at tick x.
+pub enum Rule {
+    Rest,
+    Echo,
+    Tick,
+    Jump(u32),
+    Wake(u32),
+}
+
+pub struct Node {
+    // n, f and the own serial
+    pub lines: u32,
+    pub faults: u32,
+    pub own: u32,
+    // 0 passive, 1 active
+    pub mode: u32,
+    // k
+    pub tick: u32,
+    // the last echo sent
+    pub sent: u32,
+}
+
+// The node that follows, with the count of its records.
+pub struct Next {
+    pub node: Node,
+    pub records: usize,
+}
+
+fn greater(a: u32, b: u32) -> u32
+    ensures { λ r. ⌜ r ≡ max a b ⌝ }
+{
+    if a < b { b } else { a }
+}
+
+impl Node {
+    pub const WINDOW: u32 = 64;
+
+    pub const LAST_TICK: u32 = 4_000_000_000;
+
+    // A fresh node: clock 0, last echo 0, passive.
+    pub fn new(lines: u32, faults: u32, own: u32) -> Node
+        ensures { λ r. ⌜ r ≡ freshNode lines faults own ⌝ }
+    {
+        Node {
+            lines,
+            faults,
+            own,
+            mode: 0,
+            tick: 0,
+            sent: 0,
+        }
+    }
+
+    // R1 or R2: echo k is unsent, and (init, k) or (echo, k) is held by f + 1.
+    fn can_echo(self, b: &[u8], i: usize) -> bool
+        requires { ⌜ RowsIn self (now b) i ⌝ }
+        ensures { λ r. ⌜ r ≡ (canR1 window self (rowsAt 8 (self .lines) (now (b .entry)) i) || canR2 window self (rowsAt 8 (self .lines) (now (b .entry)) i)) ⌝ }
+    {
+        let n = self.lines as usize;
+        let k = self.tick;
+        let f = self.faults as usize;
+        let enough = f + 1;
+        if self.sent < k {
+            let inits = count_holders(b, i, n, 1, Node::WINDOW, k);
+            if enough <= inits {
+                return true;
+            }
+            let echoes = count_holders(b, i, n, 2, Node::WINDOW, k);
+            if enough <= echoes {
+                return true;
+            }
+        }
+        false
+    }
+
+    // R3: (echo, k) is held by n - f, and k is below the last tick.
+    fn can_tick(self, b: &[u8], i: usize) -> bool
+        requires { ⌜ RowsIn self (now b) i ⌝ }
+        ensures { λ r. ⌜ r ≡ canR3 window lastTick self (rowsAt 8 (self .lines) (now (b .entry)) i) ⌝ }
+    {
+        let n = self.lines as usize;
+        let k = self.tick;
+        let enough = n - self.faults as usize;
+        if k < Node::LAST_TICK {
+            return enough <= count_holders(b, i, n, 2, Node::WINDOW, k);
+        }
+        false
+    }
+
+    // R4 or R5, or none.
+    fn jump_or_wake(self, b: &[u8], i: usize) -> Rule
+        requires { ⌜ RowsIn self (now b) i ⌝ }
+        ensures { λ r. ⌜ r ≡ orJump (jumpTo window self (rowsAt 8 (self .lines) (now (b .entry)) i)) (orWake (wakeAt window self (rowsAt 8 (self .lines) (now (b .entry)) i))) ⌝ }
+    {
+        let n = self.lines as usize;
+        let enough = self.faults as usize + 1;
+        let jump = find_greatest(b, i, n, 2, Node::WINDOW, enough, self.tick as u64 + 2);
+        if 0 < jump {
+            return Rule::Jump((jump - 1) as u32);
+        }
+        if self.mode == 0 {
+            let wake = find_greatest(b, i, n, 1, Node::WINDOW, enough, 0);
+            if 0 < wake {
+                return Rule::Wake((wake - 1) as u32);
+            }
+        }
+        Rule::Rest
+    }
+
+    // The first rule that can fire.
+    pub fn rule(self, b: &[u8], i: usize) -> Rule
+        requires { ⌜ RowsIn self (now b) i ⌝ }
+        ensures { λ r. ⌜ r ≡ firstRule window lastTick (rowsAt 8 (self .lines) (now (b .entry)) i) self ⌝ }
+    {
+        if self.can_echo(b, i) {
+            return Rule::Echo;
+        }
+        if self.can_tick(b, i) {
+            return Rule::Tick;
+        }
+        self.jump_or_wake(b, i)
+    }
+
+    // The tick that R5 at x takes: the larger of x - 1 and k, where x = 0 keeps k.
+    fn woken(self, x: u32) -> u32
+        ensures { λ r. ⌜ r ≡ woken self x ⌝ }
+    {
+        if x == 0 {
+            return self.tick;
+        }
+        greater(x - 1, self.tick)
+    }
+
+    // The node after a rule has fired.
+    fn fire(self, rule: Rule) -> Node
+        requires { ⌜ CanFire lastTick self rule ⌝ }
+        ensures { λ r. ⌜ r ≡ fired self rule ⌝ }
+    {
+        let mut next = self;
+        match rule {
+            Rule::Rest => {}
+            Rule::Echo => {
+                next.sent = self.tick;
+            }
+            Rule::Tick => {
+                next.tick = self.tick + 1;
+            }
+            Rule::Jump(l) => {
+                next.tick = l - 1;
+                next.sent = l - 1;
+            }
+            Rule::Wake(x) => {
+                let k = self.woken(x);
+                next.mode = 1;
+                next.tick = k;
+                next.sent = greater(self.sent, k);
+            }
+        }
+        next
+    }
+
+    // Puts what a rule sends behind the records that are there, and gives the new count.
+    fn say(self, rule: Rule, out: &mut [u8], records: usize) -> usize
+        requires { ⌜ (CanFire lastTick self rule) × (12 * records + 12 ≤ length (now out)) ⌝ }
+        ensures { λ r. ⌜ (r ≡ records + length (said self rule)) × (r ≤ records + 1) × (now (out .exit) ≡ putRecords (now (out .entry)) (12 * records) (said self rule)) ⌝ }
+    {
+        match rule {
+            Rule::Rest => records,
+            Rule::Echo => {
+                put_record(out, 12 * records, 0, 2, self.tick);
+                records + 1
+            }
+            Rule::Tick => {
+                put_record(out, 12 * records, 0, 1, self.tick + 1);
+                records + 1
+            }
+            Rule::Jump(l) => {
+                put_record(out, 12 * records, 0, 2, l - 1);
+                records + 1
+            }
+            Rule::Wake(x) => {
+                let k = self.woken(x);
+                if self.sent < k {
+                    put_record(out, 12 * records, 0, 2, k);
+                    return records + 1;
+                }
+                records
+            }
+        }
+    }
+
+    // Fires the first rule that can until none can, and puts the records behind the `start` that are there.
+    fn settle(self, b: &[u8], i: usize, out: &mut [u8], start: usize) -> Next
+        requires { ⌜ (RowsIn self (now b) i) × (192 ≤ length (now out)) × (start ≤ 1) ⌝ }
+        ensures { λ r. ⌜ SettledAs (settle window lastTick (rowsAt 8 (self .lines) (now (b .entry)) i) 15 self) start (now (out .entry)) r (now (out .exit)) ⌝ }
+        ensures { λ r. ⌜ r .records ≤ start + 15 ⌝ }
+    {
+        let mut node = self;
+        let mut records = start;
+        let mut left: u32 = 15;
+        while 0 < left {
+            let rule = node.rule(b, i);
+            if let Rule::Rest = rule {
+                return Next { node, records };
+            }
+            records = node.say(rule, out, records);
+            node = node.fire(rule);
+            left -= 1;
+        }
+        Next { node, records }
+    }
+
+    // The answer to (echo, 0) of another serial: the last echo sent before this delivery.
+    fn answer(self, port: u32, frame: Frame, out: &mut [u8]) -> usize
+        requires { ⌜ 12 ≤ length (now out) ⌝ }
+        ensures { λ r. ⌜ (r ≡ length (answer self port (frame .kind) (frame .tick))) × (r ≤ 1) × (now (out .exit) ≡ putRecords (now (out .entry)) 0 (answer self port (frame .kind) (frame .tick))) ⌝ }
+    {
+        if frame.kind == 2 {
+            if frame.tick == 0 {
+                if port != self.own {
+                    put_record(out, 0, port, 2, self.sent);
+                    return 1;
+                }
+            }
+        }
+        0
+    }
+
+    // One delivery: the frame is credited to the port's row, answered where it asks for that, and the rules fire.
+    pub fn deliver(self, b: &mut [u8], i: usize, port: u32, frame: Frame, out: &mut [u8]) -> Next
+        requires { ⌜ (RowsIn self (now b) i) × (192 ≤ length (now out)) × (count port (words (self .lines) 28 (now b) i) ≤ 1) ⌝ }
+        ensures { λ r. ⌜ DeliveredAs (delivered window lastTick (record { node = self; rows = rowsAt 8 (self .lines) (now (b .entry)) i }) port (frame .kind) (frame .tick)) (now (b .entry)) i (now (out .entry)) r (now (b .exit)) (now (out .exit)) ⌝ }
+    {
+        let n = self.lines as usize;
+        credit_row(b, i, n, Node::WINDOW, port, frame.kind, frame.tick);
+        let start = self.answer(port, frame, out);
+        self.settle(b, i, out, start)
+    }
+}

@@ -1,0 +1,18 @@
+// Outgoing records: destination serial, 0 for all, then a frame. A joint: the caller has checked that there is room.
+use fields::field::put_word;
+use forms::frame::put_frame;
+ghost use mathlib.Core.Path.{_≡_};
+ghost use Prim.Native.Nat.{_+_, _≤_, _<_};
+ghost use lib.ListN.{length};
+ghost use Rattle.rules.specs.Record.{putRecord};
+
+// Bytes of a record.
+pub const RECORD: usize = 12;
+
+pub fn put_record(out: &mut [u8], i: usize, dest: u32, kind: u32, tick: u32)
+    requires { ⌜ (i + 12 ≤ length (now out)) × (kind < 256) ⌝ }
+    ensures { λ _. ⌜ now (out .exit) ≡ putRecord (now (out .entry)) i (record { dest = dest; kind = kind; tick = tick }) ⌝ }
+{
+    put_word(out, i, dest);
+    put_frame(out, i + 4, kind, tick);
+}

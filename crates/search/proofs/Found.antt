@@ -1,0 +1,62 @@
+-- From one look to the next: what is found among the ticks looked at is the greatest, and where nothing is found none is left
+-- above the next look.
+-- Assumes nothing.
+use mathlib.Core.Path.{_≡_, refl, sym, ap, _∙_}
+use mathlib.Core.List.{List}
+use Prim.Native.Nat.{ℕ, zero, suc, _+_, _-_, _≤_, _<_, max}
+use native.Mathlib.Decide.{decLt}
+use native.Mathlib.Omega.{arith}
+use Rattle.evidence.specs.Holders.{holders, bestOf, greatest}
+use Rattle.evidence.specs.Rows.{Row}
+use Rattle.sets.specs.Ticks.{Held, bit, holds}
+use Rattle.evidence.proofs.Greatest.{held-place, best-held, best-most, greatest-none, greatest-is}
+use Rattle.sets.proofs.Members.{holds-at}
+use Rattle.search.specs.Scan.{Scanned}
+use Rattle.search.specs.declared.scan.Seen.{Seen}
+use Rattle.search.proofs.Bits.{bit-none}
+
+module _ (w kind m low : ℕ) (rows : List Row) where
+  -- no tick from x on is held by m rows
+  abbrev pub NoneFrom : ℕ → Type 0
+  NoneFrom x = (t : ℕ) → x ≤ t → low ≤ t → max 1 m ≤ holders w kind t rows → ⊥
+
+  -- the ticks looked at, as a set
+  abbrev pub lookedAt : ℕ → Seen → Held
+  lookedAt x seen = record { top = x - 1; mask = seen .held }
+
+  module _ {short x : ℕ} {seen : Seen} (few : short ≤ max 1 m) (look : Scanned w kind short x rows seen) where
+    -- a tick that is held by m rows and is among those looked at
+    member : (t : ℕ) → t < x → x ≤ t + w → max 1 m ≤ holders w kind t rows → holds w (lookedAt x seen) t ≡ 1
+    member t p q r = holds-at w (lookedAt x seen) t (x - 1 - t) (omega arith) (omega arith) ∙ look .shown t p q (omega arith)
+
+    -- nothing is found among them
+    pub none-further : NoneFrom x → ((t : ℕ) → t < x → low ≤ t → max 1 m ≤ holders w kind t rows → holds w (lookedAt x seen) t ≡ 1 → ⊥) → NoneFrom (seen .next)
+    none-further above none t p l r =
+        elim (decLt t x) [
+          | no n ↦ above t (omega arith) l r
+          | yes q ↦ elim (decLt (t + w) x) [ yes s ↦ absurd (omega (arith, look .between t s p)) | no s ↦ none t q l r (member t q (omega arith) r) ]
+        ]
+
+    pub none-seen : NoneFrom x → seen .held ≡ 0 → NoneFrom (seen .next)
+    none-seen above e = none-further above (λ t q l r s. let near = held-place w (lookedAt x seen) t s in omega (arith, s, holds-at w (lookedAt x seen) t (x - 1 - t) (omega arith) (omega arith), ap (λ (b : ℕ). bit b (x - 1 - t)) e, bit-none (x - 1 - t)))
+
+    pub none-better : NoneFrom x → {best : ℕ} → best ≡ max low (bestOf w kind (max 1 m) low rows (lookedAt x seen)) → best ≤ low → NoneFrom (seen .next)
+    none-better above e p = none-further above (λ t q l r s. omega (arith, e, p, best-most w kind (max 1 m) low rows t (lookedAt x seen) l r s))
+
+    -- something is found
+    pub found : NoneFrom x → (best : ℕ) → best ≡ max low (bestOf w kind (max 1 m) low rows (lookedAt x seen)) → low < best → (best ≡ greatest w kind m low rows) × (best ≤ x)
+    found above zero e p = absurd (omega arith)
+    found above (suc t) e p =
+        let best : bestOf w kind (max 1 m) low rows (lookedAt x seen) ≡ suc t = omega arith in
+        let held = best-held w kind (max 1 m) low rows t (lookedAt x seen) best in
+        let near = held-place w (lookedAt x seen) t (held .2) in
+        let is = greatest-is w kind m low rows t (held .0) (omega (arith, held .1)) (omega (arith, held .1)) (λ u q r s.
+        elim (decLt u x) [
+          | no n ↦ above u (omega arith) (omega (arith, held .0)) (omega arith)
+          | yes l ↦ omega (arith, best, best-most w kind (max 1 m) low rows u (lookedAt x seen) (omega (arith, held .0)) (omega arith) (member u l (omega (arith, near .1)) (omega arith)))
+        ]) in
+        (sym is, omega (arith, near .0))
+
+  -- and from low on nothing is left
+  pub none-left : {x : ℕ} → NoneFrom x → x ≤ low → greatest w kind m low rows ≡ 0
+  none-left above p = greatest-none w kind m low rows (λ t l q r. above t (omega arith) l (omega arith))

@@ -1,0 +1,5 @@
+-- The laws of `search` that belong to no single function.
+pub mod Bits
+pub mod Found
+pub mod Scans
+pub mod Shows

@@ -1,0 +1,72 @@
+-- What a look at the rows knows while some rows are left, and what one more row adds to it.
+-- Assumes nothing.
+use mathlib.Core.Path.{_≡_, refl, sym, ap, _∙_}
+use mathlib.Core.Logic.{_⊎_, inl, inr, ⊎-elim}
+use mathlib.Core.List.{List}
+use Prim.Native.Nat.{ℕ, zero, suc, _+_, _-_, _≤_, _<_, max, min}
+use native.Mathlib.Decide.{decLe}
+use native.Mathlib.Omega.{arith}
+use borrow.Author.Tests.{le-leb, lt-leb}
+use Rattle.evidence.specs.Holders.{holders}
+use Rattle.evidence.specs.Rows.{Row}
+use Rattle.sets.specs.Ticks.{Held, bit, holds}
+use Rattle.sets.proofs.Members.{Place, above, below, inside, place, holds-above, holds-below}
+use Rattle.search.specs.Levels.{reached, Short, Counts}
+use Rattle.search.specs.Scan.{Counted, nextBelow}
+use Rattle.search.specs.declared.levels.Levels.{Levels}
+use Rattle.search.proofs.Bits.{reached-le}
+
+-- ---- where the next look begins
+
+pub next-stays : (w x next y : ℕ) → x ≤ y → nextBelow w x next y ≡ next
+unfolding nextBelow
+next-stays w x next y p = rw (le-leb x y p)
+
+pub next-falls : (w x next y : ℕ) → y < x → nextBelow w x next y ≡ max next (min y (x - w))
+unfolding nextBelow
+next-falls w x next y p = rw (lt-leb x y p)
+
+next-least : (w x next y : ℕ) → next ≤ nextBelow w x next y
+next-least w x next y = elim (decLe x y) [ yes p ↦ omega (arith, next-stays w x next y p) | no p ↦ omega (arith, next-falls w x next y (omega arith)) ]
+
+next-less : (w x next y : ℕ) → next < x → nextBelow w x next y < x
+next-less w x next y q = elim (decLe x y) [ yes p ↦ omega (arith, next-stays w x next y p) | no p ↦ omega (arith, next-falls w x next y (omega arith)) ]
+
+-- ---- rows counted, and rows left
+
+pub record Scanning (w kind m x : ℕ) (all rest : List Row) (l : Levels) (next : ℕ) : Type 0 where
+  pub counting : (t : ℕ) → t < x → x ≤ t + w → (bit (l .over) (x - 1 - t) ≡ 1) ⊎ (reached l (x - 1 - t) + m + holders w kind t rest ≡ 64 + holders w kind t all)
+  pub between : (t : ℕ) → t + w < x → next ≤ t → holders w kind t rest ≡ holders w kind t all
+  pub less : next < x
+
+-- a tick below those looked at that the set holds is one that the next look comes by
+unheld : (w x : ℕ) (s : Held) (next t : ℕ) → t + w < x → nextBelow w x next (s .top + 1) ≤ t → holds w s t ≡ 0
+unheld w x s next t p q = go (place w s t)
+  where
+    go : Place w s t → holds w s t ≡ 0
+    go (above r) = holds-above w s t r
+    go (below r) = holds-below w s t r
+    go (inside i e r) = absurd (omega (arith, next-falls w x next (s .top + 1) (omega arith)))
+
+module _ {w kind m x : ℕ} {all : List Row} where
+  pub scan-first : {l : Levels} → w ≤ 64 → 0 < x → Short m l → Scanning w kind m x all all l 0
+  scan-first wide p h =
+      record {
+        counting = λ t q r. inr (omega (arith, h .short (x - 1 - t) (omega arith)));
+        between = λ t q r. refl;
+        less = p;
+      }
+
+  pub scan-row : {rest left : List Row} {l k : Levels} {next : ℕ} (s : Held) → Scanning w kind m x all rest l next →
+      ((t : ℕ) → holders w kind t rest ≡ holds w s t + holders w kind t left) → Counted w s x l k →
+      Scanning w kind m x all left k (nextBelow w x next (s .top + 1))
+  scan-row {rest} {left} {l} {k} {next} s h down row =
+      record {
+        counting = λ t p q. ⊎-elim (λ e. inl (row t p q .stays e)) (λ e. ⊎-elim inl (λ f. inr (omega (arith, e, f, down t))) (row t p q .counts)) (h .counting t p q);
+        between = λ t p q. omega (arith, h .between t p (omega (arith, next-least w x next (s .top + 1))), down t, unheld w x s next t p q);
+        less = next-less w x next (s .top + 1) (h .less);
+      }
+
+  -- past the last row a counter that has not run over is short of m
+  pub scan-shown : {left : List Row} {l : Levels} {next : ℕ} → Scanning w kind m x all left l next → ((t : ℕ) → holders w kind t left ≡ 0) → (t : ℕ) → t < x → x ≤ t + w → m ≤ holders w kind t all → bit (l .over) (x - 1 - t) ≡ 1
+  scan-shown {left} {l} h end t p q r = ⊎-elim (λ e. e) (λ e. absurd (omega (arith, e, end t, reached-le l (x - 1 - t)))) (h .counting t p q)

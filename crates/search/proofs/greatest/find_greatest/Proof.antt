@@ -1,0 +1,111 @@
+-- `greatest::find_greatest` meets its contract: look by look no tick that enough rows hold is left above x.
+-- Assumes nothing.
+use borrow.Author.Needs.{needs}
+use mathlib.Core.Path.{_≡_, sym, ap, _∙_, subst}
+use Prim.Native.Nat.{ℕ, _+_, _-_, _*_, _≤_, _<_, max}
+use native.Mathlib.Omega.{arith}
+use denote.Ref.{now}
+use Rattle.evidence.specs.Holders.{bestOf, greatest}
+use Rattle.evidence.specs.Rows.{rowsAt}
+use Rattle.evidence.proofs.Columns.{holders-far}
+use Rattle.search.proofs.Found.{NoneFrom, lookedAt, none-seen, none-better, found, none-left}
+use Rattle.search.proofs.greatest.find_greatest.Statement.{statement}
+use Rattle.search.proofs.greatest.find_greatest.Tie as tie
+
+abbrev Inv-loop : tie.InvT-loop
+Inv-loop b i n kind w m low place enough short x₀ x = NoneFrom w kind m low (rowsAt 8 n b i) x × (x ≤ 4294967296)
+
+abbrev μ-loop : tie.MeasureT-loop
+μ-loop b i n kind w m low place enough short x₀ x = x
+
+set-place-requires : tie.Need-set-place-requires Inv-loop μ-loop
+set-place-requires c κs = search needs
+
+at-least-one-requires : tie.Need-at-least-one-requires Inv-loop μ-loop
+at-least-one-requires c κs = search needs
+
+countable-requires : tie.Need-countable-requires Inv-loop μ-loop
+countable-requires c κs = omega arith
+
+loop-holds : tie.Need-loop-holds Inv-loop μ-loop
+loop-holds c =
+    let a = c .before .before .before .before .args in
+    (λ t p l r. omega (arith, r, holders-far (a .w) (a .kind) t 8 (a .n) (now (a .b)) (a .i) (λ k. c .before .before .before .shared-slice-known .given k .fits) p), omega arith)
+
+scan-requires : tie.Need-scan-requires Inv-loop μ-loop
+scan-requires c κs = omega arith
+
+sub-t16 : tie.Need-sub-t16 Inv-loop μ-loop
+sub-t16 c = omega arith
+
+cast-t17 : tie.Need-cast-t17 Inv-loop μ-loop
+cast-t17 c = omega arith
+
+better-requires : tie.Need-better-requires Inv-loop μ-loop
+better-requires c κs = omega arith
+
+-- the counters are not asked for more than is enough
+few : (c : tie.After-scan Inv-loop μ-loop) → c .before .before .before .countable .result ≤ max 1 (c .before .before .before .before .before .before .before .args .m)
+few c = omega (arith, c .before .before .before .countable .ensures .0, c .before .before .before .before .at-least-one .ensures)
+
+-- what is found among the ticks looked at
+best : (c : tie.After-better Inv-loop μ-loop) → let a = c .before .before .before .before .before .before .before .before .before .before .args in
+    c .better .result ≡ max (a .low) (bestOf (a .w) (a .kind) (max 1 (a .m)) (a .low) (rowsAt 8 (a .n) (now (a .b)) (a .i)) (lookedAt (a .w) (a .kind) (a .m) (a .low) (rowsAt 8 (a .n) (now (a .b)) (a .i)) (c .before .before .before .before .before .loop .x) (c .before .before .before .scan .result)))
+best c =
+    let a = c .before .before .before .before .before .before .before .before .before .before .args in
+    c .better .ensures
+    ∙ ap (λ (m : ℕ). max (a .low) (bestOf (a .w) (a .kind) m (a .low) (rowsAt 8 (a .n) (now (a .b)) (a .i)) (lookedAt (a .w) (a .kind) (a .m) (a .low) (rowsAt 8 (a .n) (now (a .b)) (a .i)) (c .before .before .before .before .before .loop .x) (c .before .before .before .scan .result)))) (c .before .before .before .before .before .before .before .at-least-one .ensures)
+
+returns : tie.Need-returns Inv-loop μ-loop
+returns c =
+    let a = c .before .before .before .before .before .before .before .before .before .before .before .args in
+    let l = c .before .before .before .before .before .before .loop in
+    let is = found (a .w) (a .kind) (a .m) (a .low) (rowsAt 8 (a .n) (now (a .b)) (a .i)) (few (c .before .before .before .before)) (c .before .before .before .before .scan .ensures) (l .inv .0) (c .before .better .result) (best (c .before)) (c .if2 .taken) in
+    (is .0, omega (arith, is .1, l .inv .1))
+
+loop-less : tie.Need-loop-less Inv-loop μ-loop
+loop-less c = omega arith
+
+loop-again : tie.Need-loop-again Inv-loop μ-loop
+loop-again c =
+    let a = c .before .before .before .before .before .before .before .before .before .before .before .args in
+    let look = c .before .before .before .before .scan .ensures in
+    let inv = c .before .before .before .before .before .before .loop .inv in
+    (none-better (a .w) (a .kind) (a .m) (a .low) (rowsAt 8 (a .n) (now (a .b)) (a .i)) (few (c .before .before .before .before)) look (inv .0) (best (c .before)) (c .if2 .left), omega (arith, look .less, inv .1))
+
+loop-less-2 : tie.Need-loop-less-2 Inv-loop μ-loop
+loop-less-2 c = omega arith
+
+loop-again-2 : tie.Need-loop-again-2 Inv-loop μ-loop
+loop-again-2 c =
+    let a = c .before .before .before .before .before .before .before .before .before .args in
+    let seen = c .before .before .scan .ensures in
+    let inv = c .before .before .before .before .loop .inv in
+    (none-seen (a .w) (a .kind) (a .m) (a .low) (rowsAt 8 (a .n) (now (a .b)) (a .i)) (few (c .before .before)) seen (inv .0) (omega arith), omega (arith, seen .less, inv .1))
+
+returns-2 : tie.Need-returns-2 Inv-loop μ-loop
+returns-2 c =
+    let a = c .before .before .before .before .before .before .args in
+    let l = c .before .loop in
+    (sym (none-left (a .w) (a .kind) (a .m) (a .low) (rowsAt 8 (a .n) (now (a .b)) (a .i)) (l .inv .0) (omega arith)), omega arith)
+
+pub find-greatest-spec : {M : Type 1} → statement M
+find-greatest-spec =
+    tie.close
+    (tie.spec
+    Inv-loop
+    μ-loop
+    set-place-requires
+    at-least-one-requires
+    countable-requires
+    loop-holds
+    scan-requires
+    sub-t16
+    cast-t17
+    better-requires
+    returns
+    loop-less
+    loop-again
+    loop-less-2
+    loop-again-2
+    returns-2)

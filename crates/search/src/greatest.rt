@@ -1,0 +1,78 @@
+// The greatest tick of a kind that enough serials hold. A joint between layers: it asks that the rows lie inside the buffer and
+// that the window fits a mask, which the node has checked before.
+use crate::scan::less;
+use crate::scan::scan;
+use evidence::rows::count_holders;
+use evidence::rows::set_place;
+use sets::ticks::Ticks;
+ghost use mathlib.Core.Path.{_≡_};
+ghost use Prim.Native.Nat.{_+_, _*_, _≤_, _<_, max};
+ghost use lib.ListN.{length};
+ghost use Rattle.evidence.specs.Holders.{greatest, bestOf};
+ghost use Rattle.evidence.specs.Rows.{rowsAt};
+ghost use Rattle.sets.specs.Sets.{heldBy};
+
+// The greatest tick of one set s, as tick + 1, that is above best and that m of the n rows hold; else best. The set's own bit
+// is tested first, and the search ends at the best so far.
+fn better(b: &[u8], i: usize, n: usize, kind: u32, w: u32, m: usize, s: Ticks, best: u64) -> u64
+    requires { ⌜ (i + n * 28 ≤ length (now b)) × (w ≤ 64) ⌝ }
+    ensures { λ r. ⌜ r ≡ max best (bestOf w kind m best (rowsAt 8 n (now (b .entry)) i) (heldBy s)) ⌝ }
+{
+    let mut left = w;
+    while 0 < left {
+        // from the greatest tick down
+        let x = less(s.top as u64 + 1, (w - left) as u64);
+        if x <= best {
+            return best;
+        }
+        let t = (x - 1) as u32;
+        if s.holds(w, t) == 1 {
+            if m <= count_holders(b, i, n, kind, w, t) {
+                return x;
+            }
+        }
+        left -= 1;
+    }
+    best
+}
+
+fn at_least_one(m: usize) -> usize
+    ensures { λ r. ⌜ r ≡ max 1 m ⌝ }
+{
+    if m == 0 { 1 } else { m }
+}
+
+// A number that a counter of six bits can be short of: 1 to 64.
+fn countable(m: usize) -> u64
+    requires { ⌜ 0 < m ⌝ }
+    ensures { λ r. ⌜ (r ≤ m) × (0 < r) × (r ≤ 64) ⌝ }
+{
+    if m < 64 { m as u64 } else { 64 }
+}
+
+// The greatest tick of a kind, as tick + 1, that is at least low and that m of the n rows from i on hold; 0 for none. Where m is more than a
+// counter can tell, the ticks that it shows are counted one by one.
+pub fn find_greatest(b: &[u8], i: usize, n: usize, kind: u32, w: u32, m: usize, low: u64) -> u64
+    requires { ⌜ (i + n * 28 ≤ length (now b)) × (w ≤ 64) ⌝ }
+    ensures { λ r. ⌜ (r ≡ greatest w kind m low (rowsAt 8 n (now (b .entry)) i)) × (r ≤ 4294967296) ⌝ }
+{
+    let place = set_place(kind);
+    let enough = at_least_one(m);
+    let short = countable(enough);
+    let mut x: u64 = 4_294_967_296;
+    while low < x {
+        let seen = scan(b, i, n, place, kind, w, short, x);
+        if seen.held != 0 {
+            let s = Ticks {
+                top: (x - 1) as u32,
+                mask: seen.held,
+            };
+            let best = better(b, i, n, kind, w, enough, s, low);
+            if low < best {
+                return best;
+            }
+        }
+        x = seen.next;
+    }
+    0
+}

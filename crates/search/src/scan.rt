@@ -1,0 +1,102 @@
+// One look at every row: which of the w ticks below x may be held by m rows, and where the next ticks below them begin.
+use crate::levels::Levels;
+use evidence::rows::ROW;
+use evidence::rows::read_set;
+use fields::field::word;
+use sets::ticks::Ticks;
+use sets::ticks::cut;
+ghost use mathlib.Core.Path.{_≡_};
+ghost use Prim.Native.Nat.{_+_, _-_, _*_, _≤_, _<_, max, min};
+ghost use lib.ListN.{length};
+ghost use Rattle.evidence.specs.Rows.{setPlace, setAt, rowsAt};
+ghost use Rattle.sets.specs.Sets.{heldBy};
+ghost use Rattle.search.specs.Scan.{Shown, Counted, Scanned, nextBelow};
+
+pub struct Seen {
+    // bit d for tick x - 1 - d: set where m rows hold that tick
+    pub held: u64,
+    // as tick + 1: no row holds a tick from here on up to the ticks looked at
+    pub next: u64,
+}
+
+// The mask of a set with bit d for tick x - 1 - d.
+fn seen_from(s: Ticks, w: u32, x: u64) -> u64
+    requires { ⌜ w ≤ 64 ⌝ }
+    ensures { λ r. ⌜ Shown w (heldBy s) x r ⌝ }
+{
+    let mask = cut(w, s.mask);
+    let y = s.top as u64 + 1;
+    if y < x {
+        let up = x - y;
+        if up < 64 { mask << up } else { 0 }
+    } else {
+        let down = y - x;
+        if down < 64 { mask >> down } else { 0 }
+    }
+}
+
+// Counts the row whose set stands at place p. Its mask is read only where the set reaches into the ticks looked at.
+fn count_row(levels: Levels, b: &[u8], p: usize, w: u32, x: u64) -> Levels
+    requires { ⌜ (p + 12 ≤ length (now b)) × (w ≤ 64) × (x ≤ 4294967296) ⌝ }
+    ensures { λ r. ⌜ Counted w (setAt 8 (now (b .entry)) p) x levels r ⌝ }
+{
+    let y = word(b, p) as u64 + 1;
+    if y + w as u64 <= x {
+        return levels;
+    }
+    if x + w as u64 <= y {
+        return levels;
+    }
+    levels.raised(seen_from(read_set(b, p), w, x))
+}
+
+fn lesser(a: u64, b: u64) -> u64
+    ensures { λ r. ⌜ r ≡ min a b ⌝ }
+{
+    if b < a { b } else { a }
+}
+
+fn greater(a: u64, b: u64) -> u64
+    ensures { λ r. ⌜ r ≡ max a b ⌝ }
+{
+    if a < b { b } else { a }
+}
+
+// What is left of a, and 0 where b is more.
+pub fn less(a: u64, b: u64) -> u64
+    ensures { λ r. ⌜ r ≡ a - b ⌝ }
+{
+    if b < a { a - b } else { 0 }
+}
+
+// Where the next look begins, once a set with top y - 1 is seen: it may hold ticks just below the w ticks under x, or at its top.
+fn next_below(next: u64, y: u64, w: u32, x: u64) -> u64
+    ensures { λ r. ⌜ r ≡ nextBelow w x next y ⌝ }
+{
+    if x <= y {
+        return next;
+    }
+    greater(next, lesser(y, less(x, w as u64)))
+}
+
+// Looks at the n rows from i on, for the sets at `place` in each.
+pub fn scan(b: &[u8], i: usize, n: usize, place: usize, kind: u32, w: u32, m: u64, x: u64) -> Seen
+    requires { ⌜ (i + n * 28 ≤ length (now b)) × (place ≡ setPlace 8 kind) × (place ≤ 16) × (w ≤ 64) × (0 < m) × (m ≤ 64) × (0 < x) × (x ≤ 4294967296) ⌝ }
+    ensures { λ r. ⌜ Scanned w kind m x (rowsAt 8 n (now (b .entry)) i) r ⌝ }
+{
+    let mut levels = Levels::short_of(m);
+    let mut next: u64 = 0;
+    let mut at = i;
+    let mut left = n;
+    while 0 < left {
+        let p = at + place;
+        levels = count_row(levels, b, p, w, x);
+        next = next_below(next, word(b, p) as u64 + 1, w, x);
+        at += ROW;
+        left -= 1;
+    }
+    Seen {
+        held: levels.over,
+        next,
+    }
+}

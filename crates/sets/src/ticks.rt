@@ -1,0 +1,122 @@
+// A set of ticks by value: top and mask, bit i of the mask for tick top - i. The mask is a word of 64 bits, so each function asks
+// that the window is at least 1 and at most 64: a joint between layers, since only the node knows the window.
+ghost use mathlib.Core.Path.{_≡_};
+ghost use Prim.Native.Nat.{_+_, _≤_, _<_, _%_, _^_, min};
+ghost use Rattle.sets.specs.Ticks.{empty, holds, insert, add, proper};
+ghost use Rattle.sets.specs.Sets.{heldBy};
+
+pub struct Ticks {
+    pub top: u32,
+    pub mask: u64,
+}
+
+// The low w bits of a mask.
+pub fn cut(w: u32, m: u64) -> u64
+    requires { ⌜ w ≤ 64 ⌝ }
+    ensures { λ r. ⌜ r ≡ m % 2 ^ w ⌝ }
+{
+    if w < 64 { m % (1u64 << w) } else { m }
+}
+
+// How many bits a mask may have: as many as the window is wide, and none for a tick below 0.
+fn reach(w: u32, top: u32) -> u32
+    ensures { λ r. ⌜ r ≡ min w (top + 1) ⌝ }
+{
+    if top < w { top + 1 } else { w }
+}
+
+impl Ticks {
+    // The empty set.
+    pub fn none() -> Ticks
+        ensures { λ r. ⌜ heldBy r ≡ empty ⌝ }
+    {
+        Ticks { top: 0, mask: 0 }
+    }
+
+    // 1 where tick t is held, else 0.
+    pub fn holds(self, w: u32, t: u32) -> u32
+        requires { ⌜ w ≤ 64 ⌝ }
+        ensures { λ r. ⌜ (r ≡ holds w (heldBy self) t) × (r ≤ 1) ⌝ }
+    {
+        let top = self.top;
+        if top < t {
+            return 0;
+        }
+        let d = top - t;
+        if d < w {
+            ((self.mask >> d) % 2) as u32
+        } else {
+            0
+        }
+    }
+
+    // The set with tick t.
+    pub fn with(self, w: u32, t: u32) -> Ticks
+        requires { ⌜ (0 < w) × (w ≤ 64) ⌝ }
+        ensures { λ r. ⌜ heldBy r ≡ insert w (heldBy self) t ⌝ }
+    {
+        let top = self.top;
+        let mask = self.mask;
+        if top < t {
+            let up = t - top;
+            if up < w {
+                Ticks {
+                    top: t,
+                    mask: cut(w, mask << up) + 1,
+                }
+            } else {
+                Ticks { top: t, mask: 1 }
+            }
+        } else {
+            let down = top - t;
+            if down < w {
+                Ticks {
+                    top,
+                    mask: mask + (1 - (mask >> down) % 2) * (1u64 << down),
+                }
+            } else {
+                Ticks { top, mask }
+            }
+        }
+    }
+
+    // The set after a frame of its kind: an echo brings three ticks, an init one.
+    pub fn after(self, w: u32, kind: u32, j: u32) -> Ticks
+        requires { ⌜ (0 < w) × (w ≤ 64) ⌝ }
+        ensures { λ r. ⌜ heldBy r ≡ add w kind (heldBy self) j ⌝ }
+    {
+        let first = self.with(w, j);
+        if kind != 2 {
+            return first;
+        }
+        if j == 0 {
+            return first;
+        }
+        let second = first.with(w, j - 1);
+        if j == 1 {
+            return second;
+        }
+        second.with(w, j - 2)
+    }
+
+    // Whether an image may hold this set: no bit outside the window or above the top, bit 0 set unless the set is empty, and the
+    // empty set with top 0.
+    pub fn is_proper(self, w: u32) -> bool
+        requires { ⌜ w ≤ 64 ⌝ }
+        ensures { λ r. ⌜ r ≡ proper w (heldBy self) ⌝ }
+    {
+        let top = self.top;
+        let mask = self.mask;
+        if mask == 0 {
+            return top == 0;
+        }
+        if mask % 2 != 1 {
+            return false;
+        }
+        let bits = reach(w, top);
+        if bits < 64 {
+            return mask < (1u64 << bits);
+        }
+        true
+    }
+}

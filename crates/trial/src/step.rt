@@ -1,0 +1,68 @@
+// A step: a head of 20 bytes, then the bytes of its text, form, frame or change.
+use crate::call;
+use crate::memory;
+use fields::field::half;
+use fields::field::word;
+ghost use Prim.Native.Nat.{_≤_};
+ghost use lib.ListN.{length};
+
+// What the head says. A call is lent `size` bytes of the image and `room` of the output. Of the image its line shows the bytes below
+// `front` and those from `from` to `to`; of the output the first `written` bytes may change.
+pub struct Step {
+    pub kind: u32,
+    pub size: usize,
+    pub room: usize,
+    pub front: usize,
+    pub from: usize,
+    pub to: usize,
+    pub written: usize,
+    pub port: u32,
+}
+
+fn read(b: &[u8]) -> Step
+    requires { ⌜ 20 ≤ length (now b) ⌝ }
+{
+    Step {
+        kind: half(b, 0),
+        size: half(b, 4) as usize,
+        room: half(b, 6) as usize,
+        front: half(b, 8) as usize,
+        from: half(b, 10) as usize,
+        to: half(b, 12) as usize,
+        written: half(b, 14) as usize,
+        port: word(b, 16),
+    }
+}
+
+// Makes a step; false where it is none.
+fn make(step: Step, data: &[u8], image: &mut [u8; 960], saved: &mut [u8; 960]) -> bool {
+    let kind = step.kind;
+    match kind {
+        1 => io::write_all(1, data),
+        2 | 3 => call::run(step, data, image),
+        4 => call::read(step, image),
+        5 => memory::show(step, image),
+        6 => memory::put(step, data, image),
+        7 => memory::save(image, saved),
+        8 => memory::save(saved, image),
+        9 => memory::clear(image),
+        _ => false,
+    }
+}
+
+// Takes the first step; the bytes that it has, or 0 where it is none or cut short.
+pub(crate) fn take(b: &[u8], image: &mut [u8; 960], saved: &mut [u8; 960]) -> usize
+    ensures { λ r. ⌜ r ≤ length (now (b .entry)) ⌝ }
+{
+    if b.len() < 20 {
+        return 0;
+    }
+    let end = 20 + half(b, 2) as usize;
+    if b.len() < end {
+        return 0;
+    }
+    if make(read(b), &b[20..end], image, saved) {
+        return end;
+    }
+    0
+}

@@ -1,4 +1,6 @@
-// A case: a head of 44 bytes, the label, and the bytes that the call is given.
+// A case of the input: a head of 44 bytes, the label, and the bytes that the call is given. The head has the call's number and the
+// length of the label, in two bytes each, the length of the bytes, in four, and what `Case` has; all of it big-endian.
+// tests/model/edges.py writes it.
 use crate::field;
 use crate::read;
 use crate::row;
@@ -16,15 +18,18 @@ use sets::ticks::Ticks;
 ghost use Prim.Native.Nat.{_≤_};
 ghost use lib.ListN.{length};
 
-// What the head says
+// The numbers of a case. Each call takes those that it has a use for.
 pub struct Case {
+    // bytes of the output
     pub room: usize,
+    // f, the holders wanted, or the field to store
     pub count: u32,
     pub serial: u32,
     pub kind: u32,
     pub tick: u32,
     pub last: u32,
     pub top: u32,
+    // the mask, the line, the least tick, or the long field to store
     pub value: u64,
 }
 
@@ -43,11 +48,29 @@ fn head(b: &[u8]) -> Case
     }
 }
 
-fn call(number: u32, case: Case, b: &[u8]) {
+// Makes a call of the crates `evidence` or `search`, and prints what came back. Rows are as many as the bytes have.
+fn call_evidence(number: u32, case: Case, b: &[u8]) {
     let s = Ticks {
         top: case.top,
         mask: case.value,
     };
+    let n = b.len() / 28;
+    let m = case.count as usize;
+    match number {
+        8 => set::show(Ticks::none()),
+        9 => set::show(s.after(WINDOW, case.kind, case.tick)),
+        10 => say::number(s.holds(WINDOW, case.tick) as u64),
+        11 => set::show_proper(s),
+        12 => row::show(b),
+        13 => row::find(case.serial, b),
+        14 => say::number(count_holders(b, 0, n, case.kind, WINDOW, case.tick) as u64),
+        15 => say::number(find_greatest(b, 0, n, case.kind, WINDOW, m, case.value)),
+        _ => say::bad(),
+    }
+}
+
+// Makes a call of the crate `forms`, or one of the others.
+fn call(number: u32, case: Case, b: &[u8]) {
     match number {
         0 => field::store_half(case.count),
         1 => field::store_word(case.count),
@@ -55,29 +78,12 @@ fn call(number: u32, case: Case, b: &[u8]) {
         3 => read::form(b),
         4 => say::number(read_serial(b, case.value as usize) as u64),
         5 => read::frame(case.last, b),
-        6 => write::run(false, case, b),
-        7 => write::run(true, case, b),
-        8 => set::show(Ticks::none()),
-        9 => set::show(s.after(WINDOW, case.kind, case.tick)),
-        10 => say::number(s.holds(WINDOW, case.tick) as u64),
-        11 => set::proper(s),
-        12 => row::show(b),
-        13 => row::find(case.serial, b),
-        14 => say::number(count_holders(b, 0, b.len() / 28, case.kind, WINDOW, case.tick) as u64),
-        15 => say::number(find_greatest(
-            b,
-            0,
-            b.len() / 28,
-            case.kind,
-            WINDOW,
-            case.count as usize,
-            case.value,
-        )),
-        _ => say::bad(),
+        6 | 7 => write::run(number == 7, case, b),
+        _ => call_evidence(number, case, b),
     }
 }
 
-// Runs the first case and prints its line; the bytes that the case has, or 0 where it is cut short.
+// Runs the first case and prints its line. How many bytes the case has, or 0 where it is cut short.
 pub(crate) fn run(b: &[u8]) -> usize
     ensures { λ r. ⌜ r ≤ length (now (b .entry)) ⌝ }
 {

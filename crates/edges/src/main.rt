@@ -1,4 +1,6 @@
-// Runs the cases on standard input and prints a line for each: its label, then what came back.
+// Runs the edges of document 01 that concern fields, forms, frames, sets of ticks and rows: reads cases from standard input, and
+// prints a line for each: its label, then what came back. tests/model/edges.py, written from the paper alone, writes both the
+// cases, this crate's `stdin`, and the lines, its `stdout`.
 mod case;
 mod field;
 mod read;

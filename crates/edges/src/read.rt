@@ -1,4 +1,4 @@
-// The form reader: number, n, f and own serial; the serial on a line; the frame reader
+// The readers: number, n, f and own serial of a form; number, kind and tick of a frame. A refusal gives zeros behind its number.
 use crate::say;
 use forms::form::FormRead;
 use forms::form::read_form;

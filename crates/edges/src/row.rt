@@ -1,4 +1,4 @@
-// Rows in lent bytes
+// Rows in lent bytes: four rows with frames credited to their senders, and where a serial stands.
 use crate::say;
 use crate::set::WINDOW;
 use evidence::rows::Found;
@@ -14,6 +14,7 @@ fn credit(rows: &mut [u8; 112], serial: u32, kind: u32, tick: u32) {
     }
 }
 
+// Credits the frames in b, each a serial, a kind and a tick, and shows the rows.
 fn credit_all(rows: &mut [u8; 112], b: &[u8]) {
     let mut at = 0;
     while at + 12 <= b.len() {
@@ -23,6 +24,7 @@ fn credit_all(rows: &mut [u8; 112], b: &[u8]) {
     say::bytes(rows);
 }
 
+// The rows of the serials 11, 22, 33 and 44, each of which its last byte holds, after the frames in b.
 pub(crate) fn show(b: &[u8]) {
     let mut rows = [0u8; 112];
     rows[3] = 11;

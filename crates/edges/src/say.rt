@@ -1,4 +1,4 @@
-// What a line of output is made of.
+// What a line of output is made of: numbers or bytes with a space before each.
 use forms::answer::Written;
 
 pub(crate) fn number(x: u64) {
@@ -15,8 +15,9 @@ pub(crate) fn end() {
     io::write_all(1, b"\n");
 }
 
+// Stands where what came back would, for a call that is not known; and at the end of an input that is cut short.
 pub(crate) fn bad() {
-    io::write_all(1, b"bad case\n");
+    io::write_all(1, b" bad case");
 }
 
 // All of b in hexadecimal, so that a byte that changed shows wherever it stands.

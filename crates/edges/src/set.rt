@@ -1,4 +1,4 @@
-// Sets of ticks in a window: top and mask.
+// Sets of ticks in the paper's window of 64: top and mask, and whether an image may hold them.
 use crate::say;
 use sets::ticks::Ticks;
 
@@ -9,7 +9,7 @@ pub(crate) fn show(s: Ticks) {
     say::number(s.mask);
 }
 
-pub(crate) fn proper(s: Ticks) {
+pub(crate) fn show_proper(s: Ticks) {
     if s.is_proper(WINDOW) {
         io::write_all(1, b" yes");
     } else {

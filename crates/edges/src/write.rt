@@ -25,13 +25,12 @@ pub(crate) fn run(framed: bool, case: Case, b: &[u8]) {
     let room = case.room % 137;
     let mut all = [0xeeu8; 136];
     let out = &mut all[0..room];
-    if framed {
-        let answer = write_frame(case.kind, case.tick, case.last, out);
-        say::written(answer, out);
+    let answer = if framed {
+        write_frame(case.kind, case.tick, case.last, out)
     } else {
         let list = serials(b);
         let n = b.len() / 4 % 261;
-        let answer = write_form(case.count, case.serial, &list[0..n], out);
-        say::written(answer, out);
-    }
+        write_form(case.count, case.serial, &list[0..n], out)
+    };
+    say::written(answer, out);
 }

@@ -34,7 +34,7 @@ module _ (w kind m low : ℕ) (rows : List Row) where
     none-further above none t p l r =
         elim (decLt t x) [
           | no n ↦ above t (omega arith) l r
-          | yes q ↦ elim (decLt (t + w) x) [ yes s ↦ absurd (omega (arith, look .between t s p)) | no s ↦ none t q l r (member t q (omega arith) r) ]
+          | yes q ↦ elim (decLt (t + w) x) [ yes s ↦ absurd (omega (arith, look .between t s p, few)) | no s ↦ none t q l r (member t q (omega arith) r) ]
         ]
 
     pub none-seen : NoneFrom x → seen .held ≡ 0 → NoneFrom (seen .next)

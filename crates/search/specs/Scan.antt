@@ -23,9 +23,17 @@ Counted w s x l r = (t : ℕ) → t < x → x ≤ t + w → Counts l r (x - 1 - 
 unfoldable pub nextBelow : ℕ → ℕ → ℕ → ℕ → ℕ
 nextBelow w x next y = cond (leb x y) next (max next (min y (x - w)))
 
+-- 1 where it may hold ticks below those looked at
+unfoldable pub reaching : ℕ → ℕ → ℕ
+reaching x y = cond (leb x y) 0 1
+
+-- the next look is none where fewer than m rows reach so far down
+unfoldable pub nextIf : ℕ → ℕ → ℕ → ℕ
+nextIf m rest next = cond (leb m rest) next 0
+
 pub record Scanned (w kind m x : ℕ) (rows : List Row) (r : Seen) : Type 0 where
   -- a tick that m rows hold is shown
   pub shown : (t : ℕ) → t < x → x ≤ t + w → m ≤ holders w kind t rows → bit (r .held) (x - 1 - t) ≡ 1
-  -- and between those looked at and the next there is none
-  pub between : (t : ℕ) → t + w < x → r .next ≤ t → holders w kind t rows ≡ 0
+  -- and between those looked at and the next there is no such tick
+  pub between : (t : ℕ) → t + w < x → r .next ≤ t → holders w kind t rows < m
   pub less : r .next < x

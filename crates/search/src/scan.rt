@@ -10,12 +10,12 @@ ghost use Prim.Native.Nat.{_+_, _-_, _*_, _≤_, _<_, max, min};
 ghost use lib.ListN.{length};
 ghost use Rattle.evidence.specs.Rows.{setPlace, setAt, rowsAt};
 ghost use Rattle.sets.specs.Sets.{heldBy};
-ghost use Rattle.search.specs.Scan.{Shown, Counted, Scanned, nextBelow};
+ghost use Rattle.search.specs.Scan.{Shown, Counted, Scanned, nextBelow, reaching, nextIf};
 
 pub struct Seen {
     // bit d for tick x - 1 - d: set where m rows hold that tick
     pub held: u64,
-    // as tick + 1: no row holds a tick from here on up to the ticks looked at
+    // as tick + 1: no tick from here on up to those looked at is held by m rows
     pub next: u64,
 }
 
@@ -79,6 +79,20 @@ fn next_below(next: u64, y: u64, w: u32, x: u64) -> u64
     greater(next, lesser(y, less(x, w as u64)))
 }
 
+// 1 where a set with top y - 1 may hold ticks below the w ticks under x.
+fn below(y: u64, x: u64) -> usize
+    ensures { λ r. ⌜ (r ≡ reaching x y) × (r ≤ 1) ⌝ }
+{
+    if y < x { 1 } else { 0 }
+}
+
+// Where the next look begins: nowhere, if the rows that reach below this one are fewer than m.
+fn next_if(m: u64, rest: usize, next: u64) -> u64
+    ensures { λ r. ⌜ r ≡ nextIf m rest next ⌝ }
+{
+    if (rest as u64) < m { 0 } else { next }
+}
+
 // Looks at the n rows from i on, for the sets at `place` in each.
 pub fn scan(b: &[u8], i: usize, n: usize, place: usize, kind: u32, w: u32, m: u64, x: u64) -> Seen
     requires { ⌜ (i + n * 28 ≤ length (now b)) × (place ≡ setPlace 8 kind) × (place ≤ 16) × (w ≤ 64) × (0 < m) × (m ≤ 64) × (0 < x) × (x ≤ 4294967296) ⌝ }
@@ -86,17 +100,20 @@ pub fn scan(b: &[u8], i: usize, n: usize, place: usize, kind: u32, w: u32, m: u6
 {
     let mut levels = Levels::short_of(m);
     let mut next: u64 = 0;
+    let mut rest: usize = 0;
     let mut at = i;
     let mut left = n;
     while 0 < left {
         let p = at + place;
         levels = count_row(levels, b, p, w, x);
-        next = next_below(next, word(b, p) as u64 + 1, w, x);
+        let y = word(b, p) as u64 + 1;
+        next = next_below(next, y, w, x);
+        rest += below(y, x);
         at += ROW;
         left -= 1;
     }
     Seen {
         held: levels.over,
-        next,
+        next: next_if(m, rest, next),
     }
 }

@@ -1,7 +1,7 @@
--- `run_all` is safe and ends
+-- `run_all` is safe and ends: a case has at least one byte, and no more than are left. Assumes nothing.
 use Prim.Native.Nat.{_-_, _≤_}
-use mathlib.Core.Path.{_≡_}
 use lib.ListN.{length}
+use native.Mathlib.Omega.{arith}
 use borrow.Author.Needs.{needs}
 use Rattle.edges.proofs.run_all.Statement.{statement}
 use Rattle.edges.proofs.run_all.Tie as tie
@@ -13,16 +13,16 @@ abbrev μ-loop : tie.MeasureT-loop
 μ-loop b at₀ at = length b - at
 
 loop-holds : tie.Need-loop-holds Inv-loop μ-loop
-loop-holds c = search needs
+loop-holds c = omega arith
 
 sub-run : tie.Need-sub-run Inv-loop μ-loop
-sub-run c = search needs
+sub-run c = omega arith
 
 part-run-start : tie.Need-part-run-start Inv-loop μ-loop
-part-run-start c = search needs
+part-run-start c = omega arith
 
 part-run-end : tie.Need-part-run-end Inv-loop μ-loop
-part-run-end c = search needs
+part-run-end c = omega arith
 
 run-requires : tie.Need-run-requires Inv-loop μ-loop
 run-requires c κs = search needs
@@ -34,13 +34,13 @@ returns : tie.Need-returns Inv-loop μ-loop
 returns c = search needs
 
 add-at : tie.Need-add-at Inv-loop μ-loop
-add-at c = search needs
+add-at c = omega arith
 
 loop-less : tie.Need-loop-less Inv-loop μ-loop
-loop-less c = search needs
+loop-less c = omega arith
 
 loop-again : tie.Need-loop-again Inv-loop μ-loop
-loop-again c = search needs
+loop-again c = omega arith
 
 returns-2 : tie.Need-returns-2 Inv-loop μ-loop
 returns-2 c = search needs

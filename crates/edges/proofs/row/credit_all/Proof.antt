@@ -1,7 +1,7 @@
--- `row::credit_all` is safe and ends
+-- `row::credit_all` is safe and ends: each turn credits one frame of 12 bytes, as long as all of it is there. Assumes nothing.
 use Prim.Native.Nat.{_-_, _≤_}
-use mathlib.Core.Path.{_≡_}
 use lib.ListN.{length}
+use native.Mathlib.Omega.{arith}
 use borrow.Author.Needs.{needs}
 use Rattle.edges.proofs.row.credit_all.Statement.{statement}
 use Rattle.edges.proofs.row.credit_all.Tie as tie
@@ -13,37 +13,37 @@ abbrev μ-loop : tie.MeasureT-loop
 μ-loop rows₀ b at₀ rows at = length b - at
 
 loop-holds : tie.Need-loop-holds Inv-loop μ-loop
-loop-holds c = search needs
+loop-holds c = omega arith
 
 add-loop : tie.Need-add-loop Inv-loop μ-loop
-add-loop c = search needs
+add-loop c = omega arith
 
 word-requires : tie.Need-word-requires Inv-loop μ-loop
-word-requires c κs = search needs
+word-requires c κs = omega arith
 
 add-word : tie.Need-add-word Inv-loop μ-loop
-add-word c = search needs
+add-word c = omega arith
 
 word-requires-2 : tie.Need-word-requires-2 Inv-loop μ-loop
-word-requires-2 c κs = search needs
+word-requires-2 c κs = omega arith
 
 add-word-2 : tie.Need-add-word-2 Inv-loop μ-loop
-add-word-2 c = search needs
+add-word-2 c = omega arith
 
 word-requires-3 : tie.Need-word-requires-3 Inv-loop μ-loop
-word-requires-3 c κs = search needs
+word-requires-3 c κs = omega arith
 
 credit-requires : tie.Need-credit-requires Inv-loop μ-loop
 credit-requires c κs = search needs
 
 add-at : tie.Need-add-at Inv-loop μ-loop
-add-at c = search needs
+add-at c = omega arith
 
 loop-less : tie.Need-loop-less Inv-loop μ-loop
-loop-less c = search needs
+loop-less c = omega arith
 
 loop-again : tie.Need-loop-again Inv-loop μ-loop
-loop-again c = search needs
+loop-again c = omega arith
 
 bytes-requires : tie.Need-bytes-requires Inv-loop μ-loop
 bytes-requires c κs = search needs

@@ -10,17 +10,17 @@ use Rattle.evidence.specs.Holders.{holders}
 use Rattle.evidence.specs.Rows.{setPlace, setAt, rowsAt}
 use Rattle.sets.specs.Ticks.{Held, holds}
 use Rattle.evidence.proofs.Columns.{holders-down, holders-end}
-use Rattle.search.specs.Scan.{Counted, nextBelow}
-use Rattle.search.proofs.Scans.{Scanning, scan-first, scan-row, scan-shown}
+use Rattle.search.specs.Scan.{Counted, nextBelow, reaching}
+use Rattle.search.proofs.Scans.{Scanning, scan-first, scan-row, scan-shown, scan-between, scan-less}
 use Rattle.search.proofs.scan.scan.Statement.{statement}
 use Rattle.search.proofs.scan.scan.Tie as tie
 
 abbrev Inv-loop : tie.InvT-loop
-Inv-loop b i n place kind w m x levels₀ next₀ at₀ left₀ levels next at left =
-    Scanning w kind m x (rowsAt 8 n b i) (rowsAt 8 left b at) levels next × (at + left * 28 ≤ length b)
+Inv-loop b i n place kind w m x levels₀ next₀ rest₀ at₀ left₀ levels next rest at left =
+    Scanning w kind m x (rowsAt 8 n b i) (rowsAt 8 left b at) levels next rest × (at + left * 28 ≤ length b) × (rest + left ≤ n)
 
 abbrev μ-loop : tie.MeasureT-loop
-μ-loop b i n place kind w m x levels₀ next₀ at₀ left₀ levels next at left = left
+μ-loop b i n place kind w m x levels₀ next₀ rest₀ at₀ left₀ levels next rest at left = left
 
 short-of-requires : tie.Need-short-of-requires Inv-loop μ-loop
 short-of-requires c κs = search needs
@@ -28,7 +28,7 @@ short-of-requires c κs = search needs
 loop-holds : tie.Need-loop-holds Inv-loop μ-loop
 loop-holds c =
     let pre = c .before .before .pre in
-    (scan-first (pre .3) (pre .6) (c .short-of .ensures), pre .0)
+    (scan-first (pre .3) (pre .6) (c .short-of .ensures), pre .0, omega arith)
 
 add-p : tie.Need-add-p Inv-loop μ-loop
 add-p c = omega arith
@@ -39,14 +39,20 @@ count-row-requires c κs = omega arith
 word-requires : tie.Need-word-requires Inv-loop μ-loop
 word-requires c κs = omega arith
 
-cast-next-below : tie.Need-cast-next-below Inv-loop μ-loop
-cast-next-below c = search needs
+cast-y : tie.Need-cast-y Inv-loop μ-loop
+cast-y c = search needs
 
-add-next-below : tie.Need-add-next-below Inv-loop μ-loop
-add-next-below c = search needs
+add-y : tie.Need-add-y Inv-loop μ-loop
+add-y c = search needs
 
 next-below-requires : tie.Need-next-below-requires Inv-loop μ-loop
 next-below-requires c κs = search needs
+
+below-requires : tie.Need-below-requires Inv-loop μ-loop
+below-requires c κs = search needs
+
+add-rest : tie.Need-add-rest Inv-loop μ-loop
+add-rest c = omega arith
 
 add-at : tie.Need-add-at Inv-loop μ-loop
 add-at c = omega arith
@@ -60,27 +66,36 @@ loop-less c = omega arith
 loop-again : tie.Need-loop-again Inv-loop μ-loop
 unfolding setAt
 loop-again c =
-    let a = c .before .before .before .before .before .before .before .args in
-    let l = c .before .before .before .before .loop in
+    let a = c .before .before .before .before .before .before .before .before .args in
+    let l = c .before .before .before .before .before .loop in
     let here = setAt 8 (now (a .b)) (l .at + a .place) in
     let down : (t : ℕ) → holders (a .w) (a .kind) t (rowsAt 8 (l .left) (now (a .b)) (l .at)) ≡ holds (a .w) here t + holders (a .w) (a .kind) t (rowsAt 8 (l .left - 1) (now (a .b)) (l .at + 28)) =
-    λ t. holders-down 8 (l .left) (now (a .b)) (l .at) (a .w) (a .kind) t (c .before .before .before .loop-test .taken)
-    ∙ ap (λ (p : ℕ). holds (a .w) (setAt 8 (now (a .b)) (l .at + p)) t + holders (a .w) (a .kind) t (rowsAt 8 (l .left - 1) (now (a .b)) (l .at + 28))) (sym (c .before .before .before .before .before .before .before .pre .1)) in
-    let next = c .next-below .ensures ∙ ap (λ (top : ℕ). nextBelow (a .w) (a .x) (l .next) (top + 1)) (c .before .word .ensures) in (
-      subst (Scanning (a .w) (a .kind) (a .m) (a .x) (rowsAt 8 (a .n) (now (a .b)) (a .i)) (rowsAt 8 (l .left - 1) (now (a .b)) (l .at + 28)) (c .before .before .count-row .result)) (sym next)
-          (scan-row here (l .inv .0) down (c .before .before .count-row .ensures)),
+    λ t. holders-down 8 (l .left) (now (a .b)) (l .at) (a .w) (a .kind) t (c .before .before .before .before .loop-test .taken)
+    ∙ ap (λ (p : ℕ). holds (a .w) (setAt 8 (now (a .b)) (l .at + p)) t + holders (a .w) (a .kind) t (rowsAt 8 (l .left - 1) (now (a .b)) (l .at + 28))) (sym (c .before .before .before .before .before .before .before .before .pre .1)) in
+    let top = c .before .before .word .ensures in
+    let next = c .before .next-below .ensures ∙ ap (λ (top : ℕ). nextBelow (a .w) (a .x) (l .next) (top + 1)) top in
+    let under = ap (λ (k : ℕ). l .rest + k) (c .below .ensures .0 ∙ ap (λ (top : ℕ). reaching (a .x) (top + 1)) top) in
+    let row = scan-row here (l .inv .0) down (c .before .before .before .count-row .ensures) in (
+      subst (Scanning (a .w) (a .kind) (a .m) (a .x) (rowsAt 8 (a .n) (now (a .b)) (a .i)) (rowsAt 8 (l .left - 1) (now (a .b)) (l .at + 28)) (c .before .before .before .count-row .result) (c .before .next-below .result)) (sym under)
+          (subst (λ (q : ℕ). Scanning (a .w) (a .kind) (a .m) (a .x) (rowsAt 8 (a .n) (now (a .b)) (a .i)) (rowsAt 8 (l .left - 1) (now (a .b)) (l .at + 28)) (c .before .before .before .count-row .result) q (l .rest + reaching (a .x) (here .top + 1))) (sym next) row),
+      omega arith,
       omega arith,
     )
 
+next-if-requires : tie.Need-next-if-requires Inv-loop μ-loop
+next-if-requires c κs = search needs
+
 returns : tie.Need-returns Inv-loop μ-loop
 returns c =
-    let a = c .before .before .before .before .args in
-    let l = c .before .loop in
+    let a = c .before .before .before .before .before .args in
+    let l = c .before .before .loop in
+    let h = l .inv .0 in
     let end : (t : ℕ) → holders (a .w) (a .kind) t (rowsAt 8 (l .left) (now (a .b)) (l .at)) ≡ 0 = λ t. holders-end (a .w) (a .kind) t 8 (l .left) (now (a .b)) (l .at) (omega arith) in
+    let next = c .next-if .ensures in
     record {
-      shown = scan-shown (l .inv .0) end;
-      between = λ t p q. sym (l .inv .0 .between t p q) ∙ end t;
-      less = l .inv .0 .less;
+      shown = scan-shown h end;
+      between = λ t p q. scan-between h end (c .before .before .before .before .before .pre .4) t p (omega (arith, q, next));
+      less = omega (arith, scan-less h end, next);
     }
 
 pub scan-spec : {M : Type 1} → statement M
@@ -94,11 +109,14 @@ scan-spec =
     add-p
     count-row-requires
     word-requires
-    cast-next-below
-    add-next-below
+    cast-y
+    add-y
     next-below-requires
+    below-requires
+    add-rest
     add-at
     sub-left
     loop-less
     loop-again
+    next-if-requires
     returns)

@@ -4,8 +4,8 @@
 usage: trial.py stdin > crates/trial/stdin
        trial.py stdout > crates/trial/stdout
 
-The program keeps one image buffer and one copy of it, as this file does. Each step is written for the program and made here at once,
-on buffers of the same length and with the same bytes in them. What the calls give comes from the model alone."""
+The program keeps one image buffer, as this file does. Each step is written for the program and made here at once, on buffers of the
+same length and with the same bytes in them. What the calls give comes from the model alone."""
 import struct
 import sys
 
@@ -14,7 +14,7 @@ from node import ECHO, INIT, LAST
 
 FILL = 165  # what buffers hold before a call
 FOUR = bytes([4, 1, 0, 8]) + b"".join(s.to_bytes(4, "big") for s in (11, 11, 22, 33, 44))
-TEXT, BOOT, DELIVER, READ, IMAGE, PUT, SAVE, RESTORE, CLEAR = range(1, 10)  # kinds of step
+TEXT, HAND_IN, IMAGE, READ, BOOT, DELIVER = range(1, 7)  # kinds of step
 
 
 def blank(length):
@@ -22,36 +22,27 @@ def blank(length):
 
 
 stdin, stdout = bytearray(), bytearray()
-image, saved = blank(960), blank(960)
+image = blank(960)
 
 
 # Steps
 
 
 def step(kind, data=b"", size=960, room=200, shown=(0, 0, 0), written=0, port=0):
-    """A head of 20 bytes: kind, length of the data, bytes lent of the image and of the output, the part of the image that is shown in
-    three places (up to the first, and from the second to the third), bytes of the output that may change, and the port; then the data."""
+    """A head of 20 bytes: in 2 bytes each kind, length of the data, bytes lent of the image and of the output, three places in the
+    image (shown are the bytes up to the first, and from the second to the third), bytes of the output that may change; in 4 bytes
+    the port. Then the data."""
     stdin.extend(struct.pack(">8HI", kind, len(data), size, room, *shown, written, port) + data)
 
 
-def put(at, data):
-    step(PUT, data, shown=(0, at, 0))
-    image[at : at + len(data)] = data
-
-
-def save():
-    step(SAVE)
-    saved[:] = image
-
-
-def restore():
-    step(RESTORE)
-    image[:] = saved
+def hand_in(data):
+    """Puts an image at the front of the buffer."""
+    step(HAND_IN, data)
+    image[: len(data)] = data
 
 
 def clear():
-    step(CLEAR)
-    image[:] = blank(960)
+    hand_in(blank(960))
 
 
 def begin(label, name):
@@ -64,8 +55,8 @@ def words(data):
 
 
 def call(kind, data, size, room, port, shown):
-    """Boots or delivers with the first bytes of the image buffer and of an output. Where no part of the image is shown, no byte of the
-    two may change; else the shown bytes of the image, and the records."""
+    """Boots or delivers with the first bytes of the image buffer and of an output. Where no part of the image is shown, no byte of
+    the two may change; else the shown bytes of the image, and the records."""
     old, out = bytes(image), blank(200)
     part, front = image[:size], out[:room]
     number, records = node.boot(data, part, front) if kind == BOOT else node.deliver(part, port, data, front)
@@ -91,7 +82,6 @@ def deliver(label, row, port, kind, tick):
 
 
 def try_boot(label, form, size=960, room=200):
-    clear()
     begin(label, "boot")
     call(BOOT, form, size, room, 0, (0, 0, 0))
 
@@ -122,7 +112,7 @@ def show_image(label, size):
 
 
 def story():
-    """W1 to W10 as one story. After echo 69 the window begins at 6: echo 7 brings 7 and 6, echo 5 nothing."""
+    """W1 to W10 as one story; gives the image of W9. After echo 69 the window begins at 6: echo 7 brings 7 and 6, echo 5 nothing."""
     boot("W1", FOUR, 144)
     deliver("W2", 0, 11, ECHO, 0)
     deliver("W3", 1, 22, ECHO, 0)
@@ -137,17 +127,18 @@ def story():
     deliver("W9", 3, 44, ECHO, 4)
     read("W9")
     show_image("W9", 144)
-    save()
+    w9 = bytes(image[:144])
     deliver("W10-69", 1, 22, ECHO, 69)
     deliver("W10-69-7", 1, 22, ECHO, 7)
     deliver("W10-69-5", 1, 22, ECHO, 5)
-    restore()
+    hand_in(w9)
     deliver("W10-70", 1, 22, ECHO, 70)
+    return w9
 
 
-def refused():
-    """Deliveries that are refused with 9, 10 or 11; the image is that of W9."""
-    restore()
+def refused(w9):
+    """Deliveries that are refused with 9, 10 or 11."""
+    hand_in(w9)
     try_deliver("port-12", 12, ECHO, 5)
     try_deliver("port-0", 0, ECHO, 5)
     try_deliver("port-greatest", 2**32 - 1, ECHO, 5)
@@ -169,14 +160,16 @@ def refused():
     read("after-refusals")
 
 
-def room():
-    """Buffers that are just long enough, and buffers that are not; for deliver and read the image is that of W9."""
+def room(w9):
+    """Buffers that are just long enough, and buffers that are not."""
+    clear()
     try_boot("out-191", FOUR, 144, 191)
     try_boot("out-192", FOUR, 144, 192)
+    clear()
     try_boot("image-143", FOUR, 143)
     try_boot("image-143-out-191", FOUR, 143, 191)
     try_boot("image-0", FOUR, 0)
-    restore()
+    hand_in(w9)
     for size in (0, 31, 32, 143, 144):
         read(f"image-{size}", size)
     try_deliver("out-191", 22, ECHO, 0, 144, 191)
@@ -186,30 +179,28 @@ def room():
     try_deliver("out-192", 22, ECHO, 0, 144, 192)
 
 
-def judge(label, changes):
-    """Tries the image of W9 with other bytes at some places, by a frame that a sound image takes without a record."""
-    restore()
-    for at, data in changes.items():
-        put(at, data)
-    read(label)
-    try_deliver(label, 44, ECHO, 1)
-
-
-def with_byte(label, at, byte):
-    judge(label, {at: bytes([byte])})
-
-
-def with_clock(label, k, sent):
-    judge(label, {8: k.to_bytes(4, "big") + sent.to_bytes(4, "big")})
-
-
-def with_set(label, top, first, last):
-    """Another init set of 44, which is empty: a top and the first and last byte of the mask."""
-    judge(label, {132: top.to_bytes(4, "big") + bytes([first, 0, 0, 0, 0, 0, 0, last])})
-
-
-def unsound():
+def unsound(w9):
     """Images that are not sound, made from that of W9 (k = 5, last echo 5, active), and beside them some that are."""
+
+    def judge(label, changes):
+        """Tries an image with other bytes at some places, by a frame that a sound one takes without a record."""
+        other = bytearray(w9)
+        for at, data in changes.items():
+            other[at : at + len(data)] = data
+        hand_in(other)
+        read(label)
+        try_deliver(label, 44, ECHO, 1)
+
+    def with_byte(label, at, byte):
+        judge(label, {at: bytes([byte])})
+
+    def with_clock(label, k, sent):
+        judge(label, {8: k.to_bytes(4, "big") + sent.to_bytes(4, "big")})
+
+    def with_set(label, top, first, last):
+        """Another init set of 44, which is empty: a top and the first and last byte of the mask."""
+        judge(label, {132: top.to_bytes(4, "big") + bytes([first, 0, 0, 0, 0, 0, 0, last])})
+
     header = "n-5 0 5, f-2 1 2, f-85 1 85, f-0 1 0, mode-2 2 2, byte-3 3 1, offset-33 17 33, offset-288 16 1, size-143 19 143,"
     header += "size-145 19 145, size-400 18 1, byte-20 20 1, byte-23 23 1, byte-24 24 128, byte-27 27 1, byte-28 28 1, byte-31 31 255"
     for label, at, byte in (case.split() for case in header.split(",")):
@@ -244,7 +235,9 @@ def unsound():
 
 
 def rosters():
-    """Forms that boot refuses with 1 to 5, and one with great serials that it takes. A zero counts before a twin, in either order."""
+    """Forms that boot refuses with 1 to 5, and one with great serials that it takes. A zero counts before a twin, whatever the
+    order of lines."""
+    clear()
     for size in (0, 7, 23):
         try_boot(f"form-of-{size}", FOUR[:size])
     forms = (
@@ -270,7 +263,7 @@ def zero():
     """Echo 0 and its answers, a serial that says a thing twice, and the ways to wake; each on a fresh image."""
     clear()
     boot("zero", FOUR, 144)
-    save()
+    fresh = bytes(image[:144])
     # each echo 0 of another serial is answered, also once it lies below that serial's window; echo 1 and 2 are not
     deliver("asks", 1, 22, ECHO, 0)
     deliver("asks-again", 1, 22, ECHO, 0)
@@ -281,12 +274,12 @@ def zero():
     deliver("below-again", 1, 22, ECHO, 0)
     deliver("init-0", 1, 22, INIT, 0)
     # the answer goes first and names the last echo sent before this delivery, here 0, although echo 1 is sent in it
-    restore()
+    hand_in(fresh)
     deliver("order-22", 1, 22, ECHO, 1)
     deliver("order-33", 2, 33, ECHO, 1)
     deliver("order-44", 3, 44, ECHO, 0)
     # one serial twice is one; two serials at tick 0 wake the node, which keeps its tick 0
-    restore()
+    hand_in(fresh)
     deliver("init-22", 1, 22, INIT, 1)
     deliver("init-22-again", 1, 22, INIT, 1)
     read("init-22-again")
@@ -294,7 +287,7 @@ def zero():
     deliver("init-0-33", 2, 33, INIT, 0)
     read("init-0-33")
     # two serials at tick 7 wake the node at tick 6, with its echo
-    restore()
+    hand_in(fresh)
     deliver("init-7-22", 1, 22, INIT, 7)
     deliver("init-7-33", 2, 33, INIT, 7)
     read("init-7-33")
@@ -315,10 +308,10 @@ def last():
 
 
 def small():
-    """n = 1, f = 0: a node that hears itself. Its clock goes on by what the wiring delivers back, never within one call by itself."""
+    """n = 1, f = 0: a node that hears itself. Its clock goes on by what the wiring delivers back, never by itself in one call."""
     clear()
     boot("one", bytes.fromhex("01000008 00000007 00000007"), 60)
-    save()
+    fresh = bytes(image[:60])
     for tick in (0, 1, 2):
         deliver(f"one-echo-{tick}", 0, 7, ECHO, tick)
         deliver(f"one-init-{tick + 1}", 0, 7, INIT, tick + 1)
@@ -326,7 +319,7 @@ def small():
             read(f"one-init-{tick + 1}")
     show_image("one", 60)
     # seven records, the most that one delivery can bring
-    restore()
+    hand_in(fresh)
     for name, kind, tick in (("init", INIT, 1), ("init", INIT, 5), ("echo", ECHO, 1), ("echo", ECHO, 4)):
         deliver(f"most-{name}-{tick}", 0, 7, kind, tick)
     read("most")
@@ -334,8 +327,8 @@ def small():
 
 
 def large():
-    """n = 32, f = 10, own serial 33 on line 31. Echo 0 from n - f = 22 lines brings the first tick; the next line is still answered with
-    echo 0, the last that was sent. Init 1 from f + 1 = 11 lines wakes the node."""
+    """n = 32, f = 10, own serial 33 on line 31. Echo 0 from n - f = 22 lines brings the first tick; the next line is still answered
+    with echo 0, the last that was sent. Init 1 from f + 1 = 11 lines wakes the node."""
     clear()
     form = bytes([32, 10, 0, 8]) + b"".join(s.to_bytes(4, "big") for s in (33, *range(64, 32, -1)))
     boot("many", form, 928)
@@ -350,7 +343,10 @@ def large():
 def main():
     if sys.argv[1:] not in (["stdin"], ["stdout"]):
         sys.exit(__doc__)
-    for trial in (story, refused, room, unsound, rosters, zero, last, small, large):
+    w9 = story()
+    for trial in (refused, room, unsound):
+        trial(w9)
+    for trial in (rosters, zero, last, small, large):
         trial()
     sys.stdout.buffer.write(stdin if sys.argv[1] == "stdin" else stdout)
 

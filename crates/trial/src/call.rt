@@ -9,23 +9,26 @@ use node::face::pebrassola_read;
 ghost use Prim.Native.Nat.{_≤_};
 ghost use lib.ListN.{length};
 
-fn boot_within(step: Step, form: &[u8], image: &mut [u8], out: &mut [u8]) -> Answer
+// The kind of a step that boots; the other that comes here delivers.
+const BOOT: u32 = 5;
+
+fn boot_or_deliver(step: Step, data: &[u8], image: &mut [u8], out: &mut [u8]) -> Answer {
+    if step.kind == BOOT {
+        return pebrassola_boot(data, image, out);
+    }
+    pebrassola_deliver(image, step.port, data, out)
+}
+
+// Lends only the first bytes of the two buffers, for calls that have too little room.
+fn lend(step: Step, data: &[u8], image: &mut [u8], out: &mut [u8]) -> Answer
     requires { ⌜ (step .size ≤ length (now image)) × (step .room ≤ length (now out)) ⌝ }
 {
     let size = step.size;
     let room = step.room;
-    pebrassola_boot(form, &mut image[0..size], &mut out[0..room])
+    boot_or_deliver(step, data, &mut image[0..size], &mut out[0..room])
 }
 
-fn deliver_within(step: Step, frame: &[u8], image: &mut [u8], out: &mut [u8]) -> Answer
-    requires { ⌜ (step .size ≤ length (now image)) × (step .room ≤ length (now out)) ⌝ }
-{
-    let size = step.size;
-    let room = step.room;
-    pebrassola_deliver(&mut image[0..size], step.port, frame, &mut out[0..room])
-}
-
-// Boots or delivers in the first bytes of the image and of a fresh output.
+// Boots or delivers with a fresh output, and prints what came of it.
 pub(crate) fn run(step: Step, data: &[u8], image: &mut [u8; 960]) -> bool {
     if step.size > 960 {
         return false;
@@ -35,11 +38,7 @@ pub(crate) fn run(step: Step, data: &[u8], image: &mut [u8; 960]) -> bool {
     }
     let old = *image;
     let mut out = [165u8; 200];
-    let answer = if step.kind == 2 {
-        boot_within(step, data, image, &mut out)
-    } else {
-        deliver_within(step, data, image, &mut out)
-    };
+    let answer = lend(step, data, image, &mut out);
     show::answer(step, answer, &old, image, &out);
     true
 }

@@ -1,15 +1,14 @@
 // Takes the steps on standard input: calls of boot, deliver and read, and what goes before them. tests/model/trial.py writes the
 // steps, and works out by its own model what they have to print.
 mod call;
-mod memory;
 mod show;
 mod step;
 
-// Takes one step after the other, up to the first that is none.
-fn take_all(b: &[u8], image: &mut [u8; 960], saved: &mut [u8; 960]) {
+// Takes one step after the other on one image, as what a call left is what the next one is lent; ends at the first that is none.
+fn take_all(b: &[u8], image: &mut [u8; 960]) {
     let mut at = 0;
     while at < b.len() {
-        let used = step::take(&b[at..], image, saved);
+        let used = step::take(&b[at..], image);
         if used == 0 {
             show::bad();
             return;
@@ -22,6 +21,5 @@ fn main() {
     let mut b = io::large_buffer();
     let size = io::read_full(0, &mut b);
     let mut image = [165u8; 960];
-    let mut saved = [165u8; 960];
-    take_all(&b[..size], &mut image, &mut saved);
+    take_all(&b[..size], &mut image);
 }

@@ -1,4 +1,4 @@
-// What a line is made of.
+// What a line of output is made of.
 use crate::step::Step;
 use node::face::Answer;
 
@@ -39,6 +39,12 @@ pub(crate) fn bytes(b: &[u8], from: usize, to: usize) {
     }
 }
 
+pub(crate) fn image(b: &[u8], to: usize) -> bool {
+    bytes(b, 0, to);
+    end();
+    true
+}
+
 fn part(b: &[u8], from: usize, to: usize) {
     if from < to {
         io::write_all(1, b" |");
@@ -60,22 +66,17 @@ fn kept(old: &[u8], new: &[u8], from: usize, to: usize) -> bool {
     check::same(&old[from..to], &new[from..to])
 }
 
-// Whether every byte kept that is neither shown nor said to change.
-fn same(step: Step, old: &[u8; 960], image: &[u8; 960], out: &[u8; 200]) -> bool {
+// Whether all is as it was but the bytes of the image that the line shows, which the model's line is held against, and those of
+// the output that may change.
+fn same(step: Step, old: &[u8], image: &[u8], out: &[u8]) -> bool {
     let fresh = [165u8; 200];
     kept(old, image, step.front, step.from)
         && kept(old, image, step.to, 960)
         && kept(&fresh, out, step.written, 200)
 }
 
-// Number, records and the bytes of the image that the step names.
-pub(crate) fn answer(
-    step: Step,
-    answer: Answer,
-    old: &[u8; 960],
-    image: &[u8; 960],
-    out: &[u8; 200],
-) {
+// Number, records, the bytes of the image that the step names, and whether the rest stayed.
+pub(crate) fn answer(step: Step, answer: Answer, old: &[u8], image: &[u8], out: &[u8]) {
     pair(answer.number, answer.records);
     io::write_all(1, b" |");
     bytes(out, 0, 12 * (answer.records as usize));

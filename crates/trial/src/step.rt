@@ -1,13 +1,13 @@
-// A step: a head of 20 bytes, then the bytes of its text, form, frame or change.
+// A step: a head of 20 bytes, then its data, which is a text, an image, a form or a frame.
 use crate::call;
-use crate::memory;
+use crate::show;
 use fields::field::half;
 use fields::field::word;
 ghost use Prim.Native.Nat.{_≤_};
 ghost use lib.ListN.{length};
 
-// What the head says. A call is lent `size` bytes of the image and `room` of the output. Of the image its line shows the bytes below
-// `front` and those from `from` to `to`; of the output the first `written` bytes may change.
+// What the head says. A call is lent `size` bytes of the image and `room` of the output. Of the image its line shows the bytes
+// below `front` and those from `from` to `to`; of the output the first `written` bytes may change.
 pub struct Step {
     pub kind: u32,
     pub size: usize,
@@ -34,24 +34,30 @@ fn read(b: &[u8]) -> Step
     }
 }
 
-// Makes a step; false where it is none.
-fn make(step: Step, data: &[u8], image: &mut [u8; 960], saved: &mut [u8; 960]) -> bool {
+// Puts an image, sound or not, at the front of the image buffer.
+fn hand_in(data: &[u8], image: &mut [u8]) -> bool {
+    if image.len() < data.len() {
+        return false;
+    }
+    bytes::copy(data, image);
+    true
+}
+
+// Makes a step: a text written, an image handed in or shown, a read, a boot, a delivery; false where it is none of these.
+fn make(step: Step, data: &[u8], image: &mut [u8; 960]) -> bool {
     let kind = step.kind;
     match kind {
         1 => io::write_all(1, data),
-        2 | 3 => call::run(step, data, image),
+        2 => hand_in(data, image),
+        3 => show::image(image, step.front),
         4 => call::read(step, image),
-        5 => memory::show(step, image),
-        6 => memory::put(step, data, image),
-        7 => memory::save(image, saved),
-        8 => memory::save(saved, image),
-        9 => memory::clear(image),
+        5 | 6 => call::run(step, data, image),
         _ => false,
     }
 }
 
 // Takes the first step; the bytes that it has, or 0 where it is none or cut short.
-pub(crate) fn take(b: &[u8], image: &mut [u8; 960], saved: &mut [u8; 960]) -> usize
+pub(crate) fn take(b: &[u8], image: &mut [u8; 960]) -> usize
     ensures { λ r. ⌜ r ≤ length (now (b .entry)) ⌝ }
 {
     if b.len() < 20 {
@@ -61,7 +67,7 @@ pub(crate) fn take(b: &[u8], image: &mut [u8; 960], saved: &mut [u8; 960]) -> us
     if b.len() < end {
         return 0;
     }
-    if make(read(b), &b[20..end], image, saved) {
+    if make(read(b), &b[20..end], image) {
         return end;
     }
     0

@@ -2,27 +2,27 @@
 -- Assumes nothing.
 use Prim.Native.Nat.{_-_, _≤_}
 use lib.ListN.{length}
-use borrow.Author.Needs.{needs}
+use native.Mathlib.Omega.{arith}
 use Rattle.trial.proofs.take_all.Statement.{statement}
 use Rattle.trial.proofs.take_all.Tie as tie
 
 abbrev Inv-loop : tie.InvT-loop
-Inv-loop b image₀ saved₀ at₀ image saved at = at ≤ length b
+Inv-loop b image₀ at₀ image at = at ≤ length b
 
 abbrev μ-loop : tie.MeasureT-loop
-μ-loop b image₀ saved₀ at₀ image saved at = length b - at
+μ-loop b image₀ at₀ image at = length b - at
 
 loop-holds : tie.Need-loop-holds Inv-loop μ-loop
-loop-holds c = search needs
+loop-holds c = omega arith
 
 sub-take : tie.Need-sub-take Inv-loop μ-loop
-sub-take c = search needs
+sub-take c = omega arith
 
 part-take-start : tie.Need-part-take-start Inv-loop μ-loop
-part-take-start c = search needs
+part-take-start c = omega arith
 
 part-take-end : tie.Need-part-take-end Inv-loop μ-loop
-part-take-end c = search needs
+part-take-end c = omega arith
 
 take-requires : tie.Need-take-requires Inv-loop μ-loop
 take-requires c κs = tt
@@ -34,13 +34,13 @@ returns : tie.Need-returns Inv-loop μ-loop
 returns c = tt
 
 add-at : tie.Need-add-at Inv-loop μ-loop
-add-at c = search needs
+add-at c = omega arith
 
 loop-less : tie.Need-loop-less Inv-loop μ-loop
-loop-less c = search needs
+loop-less c = omega arith
 
 loop-again : tie.Need-loop-again Inv-loop μ-loop
-loop-again c = search needs
+loop-again c = omega arith
 
 returns-2 : tie.Need-returns-2 Inv-loop μ-loop
 returns-2 c = tt

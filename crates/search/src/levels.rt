@@ -28,7 +28,7 @@ fn filled(c: u64) -> u64
 
 impl Levels {
     // Every tick is m rows short of running over.
-    pub fn short_of(m: u64) -> Levels
+    pub(crate) fn short_of(m: u64) -> Levels
         requires { ⌜ (0 < m) × (m ≤ 64) ⌝ }
         ensures { λ r. ⌜ Short m r ⌝ }
     {
@@ -45,7 +45,7 @@ impl Levels {
     }
 
     // Counts one row: a has the bits of the ticks that it holds. Each rank takes what is carried from the rank below.
-    pub fn raised(self, a: u64) -> Levels
+    pub(crate) fn raised(self, a: u64) -> Levels
         ensures { λ r. ⌜ Raised self a r ⌝ }
     {
         let to_twos = self.ones & a;

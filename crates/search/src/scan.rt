@@ -63,7 +63,7 @@ fn greater(a: u64, b: u64) -> u64
 }
 
 // What is left of a, and 0 where b is more.
-pub fn less(a: u64, b: u64) -> u64
+pub(crate) fn less(a: u64, b: u64) -> u64
     ensures { λ r. ⌜ r ≡ a - b ⌝ }
 {
     if b < a { a - b } else { 0 }
@@ -94,7 +94,16 @@ fn next_if(m: u64, rest: usize, next: u64) -> u64
 }
 
 // Looks at the n rows from i on, for the sets at `place` in each.
-pub fn scan(b: &[u8], i: usize, n: usize, place: usize, kind: u32, w: u32, m: u64, x: u64) -> Seen
+pub(crate) fn scan(
+    b: &[u8],
+    i: usize,
+    n: usize,
+    place: usize,
+    kind: u32,
+    w: u32,
+    m: u64,
+    x: u64,
+) -> Seen
     requires { ⌜ (i + n * 28 ≤ length (now b)) × (place ≡ setPlace 8 kind) × (place ≤ 16) × (w ≤ 64) × (0 < m) × (m ≤ 64) × (0 < x) × (x ≤ 4294967296) ⌝ }
     ensures { λ r. ⌜ Scanned w kind m x (rowsAt 8 n (now (b .entry)) i) r ⌝ }
 {

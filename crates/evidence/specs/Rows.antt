@@ -6,6 +6,7 @@ use mathlib.Core.List.{List, [], _∷_, map}
 use mathlib.Core.Bool.{Bool, true, cond, _&&_}
 use lib.Dec.{eqb, leb}
 use Rattle.fields.specs.Field.{field, putField}
+use Rattle.sets.specs.Sets.{maskBytes}
 use Rattle.sets.specs.Ticks.{Held, add, proper}
 
 -- what is held from one sender
@@ -16,6 +17,10 @@ pub record Row : Type 0 where
 
 abbrev pub rowSize : ℕ → ℕ
 rowSize mb = 12 + 2 * mb
+
+-- bytes of a row in service: the masks are those of the code's struct
+abbrev pub rowBytes : ℕ
+rowBytes = rowSize maskBytes
 
 -- the set of a kind (2 echo, 1 init), and where in its row it stands
 unfoldable pub setOf : ℕ → Row → Held

@@ -7,8 +7,8 @@ use native.Mathlib.Nat.{add-zero, add-suc, add-assoc, pow-suc, pow-succ', div-lt
 use native.Mathlib.Decide.{decLe, ℕ-discrete}
 use native.Mathlib.Omega.{arith}
 use mathlib.Core.List.{List, [], _∷_}
-use lib.ListN.{length, getD, set, length-set}
-use lib.Seq.{getD-set-same, getD-set-other, set-getD, set-out}
+use lib.ListN.{length, getD, set, drop, length-set}
+use lib.Seq.{getD-set-same, getD-set-other, set-getD, set-out, drop-set-lt}
 use lib.Dec.{lit<}
 use lib.Arith.{digits-lt, mod-mul}
 use Rattle.fields.specs.Field.{field, putField, Bytes}
@@ -39,7 +39,23 @@ field-join u (suc w) b i = ap (λ (n : ℕ). field n b i) (add-suc u w) ∙ step
         omega
         (arith, ap (λ (n : ℕ). field u b i * n) (pow-suc 256 w), mul-assoc (field u b i) (256 ^ w) 256, ap (λ (n : ℕ). getD b n 0) (add-assoc i u w))
 
+-- a byte is a field of one
+pub field-byte : (b : List ℕ) (i : ℕ) → field 1 b i ≡ getD b i 0
+unfolding field
+field-byte b i = rw add-zero (omega arith)
+
 -- ---- what a store leaves
+
+-- a store of one byte
+pub put-byte : (b : List ℕ) (i v : ℕ) → v < 256 → putField 1 b i v ≡ set b i v
+unfolding putField
+put-byte b i v p = let low : v % 256 ≡ v = omega arith in rw (add-zero, low)
+
+-- bytes behind a store stay
+pub drop-put : (w : ℕ) (b : List ℕ) (i v n : ℕ) → i + w ≤ n → drop n (putField w b i v) ≡ drop n b
+unfolding putField
+drop-put zero b i v n p = refl
+drop-put (suc w) b i v n p = drop-set-lt n (putField w b i (v / 256)) (i + w) (v % 256) (omega arith) ∙ drop-put w b i (v / 256) n (omega arith)
 
 pub length-put : (w : ℕ) (b : List ℕ) (i v : ℕ) → length (putField w b i v) ≡ length b
 unfolding putField

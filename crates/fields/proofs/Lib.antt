@@ -1,3 +1,4 @@
 -- The laws of `fields` that belong to no single function.
 pub mod Fields
+pub mod Stores
 pub mod Words

@@ -17,15 +17,11 @@ use Rattle.fields.specs.Field.{field, putField, words, putWords, Bytes}
 use Rattle.forms.specs.Roster.{rosterNumber}
 use Rattle.forms.specs.Form.{linesOf, faultsOf, ownOf, serialsOf, formNumber, formTold, serialOn, WriteTold, writeTold, putForm, formWritten}
 use Rattle.forms.specs.Frame.{badKind, frameNumber, frameTold, putFrame, frameWritten, frameWriteNumber}
-use Rattle.fields.proofs.Fields.{field-same, field-put, field-put-other, put-field, length-put}
+use Rattle.fields.proofs.Fields.{field-byte, drop-put, field-same, field-put, field-put-other, put-field, length-put}
 use Rattle.fields.proofs.Words.{Words, length-words, words-same, length-putWords, field-putWords-before, words-putWords, putWords-words}
 use Rattle.forms.proofs.Meaning.{Given, formChecks, frameChecks, form-told, frame-told, roster-says, form-says, frame-says, form-writer-says, frame-writer-says}
 
 -- ---- laws of stores
-
-field-one : (b : List ℕ) (i : ℕ) → field 1 b i ≡ getD b i 0
-unfolding field
-field-one b i = omega (arith, ap (λ (k : ℕ). getD b k 0) (add-zero i))
 
 -- a field in the front of a list
 field-take : (w n : ℕ) (b : List ℕ) (i : ℕ) → i + w ≤ n → field w (take n b) i ≡ field w b i
@@ -49,12 +45,6 @@ take-words [] b c i n s p q e = let same : i ≡ n = omega arith in rw same at e
 take-words (v ∷ vs) b c i n s p q e =
     take-words vs (putField 4 b i v) (putField 4 c i v) (i + 4) n (omega arith) (omega (arith, length-put 4 b i v)) (omega (arith, length-put 4 c i v))
     (take-put 4 b c i v (omega arith) (omega arith) e)
-
--- bytes behind a store stay
-drop-put : (w : ℕ) (b : List ℕ) (i v n : ℕ) → i + w ≤ n → drop n (putField w b i v) ≡ drop n b
-unfolding putField
-drop-put zero b i v n p = refl
-drop-put (suc w) b i v n p = drop-set-lt n (putField w b i (v / 256)) (i + w) (v % 256) (omega arith) ∙ drop-put w b i (v / 256) n (omega arith)
 
 drop-words : (vs b : List ℕ) (i n : ℕ) → i + 4 * length vs ≤ n → drop n (putWords 4 b i vs) ≡ drop n b
 unfolding putWords
@@ -174,7 +164,7 @@ module _ (f own : ℕ) (serials out : List ℕ) (fits : own < 2 ^ 32) (whole : W
 
   lines-back : linesOf form ≡ length serials
   lines-back =
-      sym (field-one form 0)
+      sym (field-byte form 0)
       ∙ header 1 0 (omega arith)
       ∙ field-put-other 1 4 _ 4 own 0 (omega arith)
       ∙ field-put-other 1 2 _ 2 8 0 (omega arith)
@@ -183,7 +173,7 @@ module _ (f own : ℕ) (serials out : List ℕ) (fits : own < 2 ^ 32) (whole : W
 
   faults-back : faultsOf form ≡ f
   faults-back =
-      sym (field-one form 1)
+      sym (field-byte form 1)
       ∙ header 1 1 (omega arith)
       ∙ field-put-other 1 4 _ 4 own 1 (omega arith)
       ∙ field-put-other 1 2 _ 2 8 1 (omega arith)
@@ -255,7 +245,7 @@ form-self : (b : List ℕ) → Bytes b → field 2 b 2 ≡ 8 → putForm b (faul
 unfolding putForm
 form-self b h e =
     cc
-    (field-one b 0, field-one b 1, length-words (linesOf b) 4 b 8, put-field 1 b 0 h, put-field 1 b 1 h, put-field 2 b 2 h, put-field 4 b 4 h, putWords-words (linesOf b) 4 b 8 h)
+    (field-byte b 0, field-byte b 1, length-words (linesOf b) 4 b 8, put-field 1 b 0 h, put-field 1 b 1 h, put-field 2 b 2 h, put-field 4 b 4 h, putWords-words (linesOf b) 4 b 8 h)
 
 -- what the form reader took, the form writer writes byte for byte, over the front of the output
 pub form-written-again : (b out : List ℕ) → Bytes b → formNumber b ≡ 0 → length b ≤ length out →
@@ -318,7 +308,7 @@ module _ (last kind tick : ℕ) (out : List ℕ) (fits : tick < 2 ^ 32) (ok : fr
   kind-back : getD frame 0 0 ≡ kind
   unfolding frame putFrame
   kind-back =
-      sym (field-one frame 0)
+      sym (field-byte frame 0)
       ∙ field-take 1 8 _ 0 (omega arith)
       ∙ field-put-other 1 4 _ 4 tick 0 (omega arith)
       ∙ field-put-other 1 3 _ 1 0 0 (omega arith)
@@ -366,7 +356,7 @@ frame-refused last kind tick out = refused-bytes (frameWriteNumber last kind tic
 -- a frame that is taken, written over itself, stays
 frame-self : (b : List ℕ) → Bytes b → field 3 b 1 ≡ 0 → putFrame b 0 (getD b 0 0) (field 4 b 4) ≡ b
 unfolding putFrame
-frame-self b h e = cc (field-one b 0, put-field 1 b 0 h, put-field 3 b 1 h, put-field 4 b 4 h)
+frame-self b h e = cc (field-byte b 0, put-field 1 b 0 h, put-field 3 b 1 h, put-field 4 b 4 h)
 
 -- what the frame reader took, the frame writer writes byte for byte, over the front of the output
 pub frame-written-again : (last : ℕ) (b out : List ℕ) → Bytes b → frameNumber last b ≡ 0 → length b ≤ length out →

@@ -13,6 +13,10 @@ use Rattle.forms.specs.declared.answer.Written.the-variants.{Wrote, NotW
 use Rattle.forms.specs.declared.form.FormRead.{FormRead}
 use Rattle.forms.specs.declared.form.FormRead.the-variants.{Taken, Refused}
 
+-- where the serials begin
+abbrev pub serialsPlace : ℕ
+serialsPlace = 8
+
 -- the fields as they lie in the bytes
 abbrev pub linesOf : List ℕ → ℕ
 linesOf b = getD b 0 0

@@ -11,6 +11,10 @@ use Rattle.forms.specs.Number.{numberOf}
 use Rattle.forms.specs.declared.frame.FrameRead.{FrameRead}
 use Rattle.forms.specs.declared.frame.FrameRead.the-variants.{Taken, Refused}
 
+-- bytes of a frame
+abbrev pub frameSize : ℕ
+frameSize = 8
+
 abbrev pub badKind : ℕ → Bool
 badKind kind = not (eqb kind 1) && not (eqb kind 2)
 

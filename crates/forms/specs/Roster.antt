@@ -7,6 +7,10 @@ use mathlib.Core.Bool.{cond, _||_}
 use lib.ListN.{length}
 use lib.Dec.{ltb, eqb}
 
+-- the greatest n (01, "Limits")
+abbrev pub mostLines : ℕ
+mostLines = 32
+
 -- how often x stands in a list
 unfoldable pub count : ℕ → List ℕ → ℕ
 count x [] = 0

@@ -15,7 +15,7 @@ use lib.Arith.{digits-div, digits-mod}
 use borrow.Author.Tests.{eqb-true}
 use Rattle.fields.specs.Field.{field, putField, Bytes}
 use Rattle.forms.specs.Form.{WriteTold}
-use Rattle.fields.proofs.Fields.{field-same, field-put, field-put-other, length-put}
+use Rattle.fields.proofs.Fields.{drop-put, field-same, field-put, field-put-other, length-put}
 use Rattle.forms.proofs.Meaning.{Check, _when_, Given, Says, roomCheck}
 use Rattle.log.specs.Log.{countOf, eventsAt, formOf, eventsOf, logNumber, LogTold, logTold, lay, putLog, logWritten}
 use Rattle.log.proofs.Lays.{take-lay, drop-lay-behind, length-lay}
@@ -33,12 +33,6 @@ take-put (suc w) out b i h p q e =
     (take-suc-set (putField w out i (field w b i)) (i + w) (getD b (i + w) 0) (omega (arith, length-put w out i (field w b i)))
     ∙ ap (λ (l : List ℕ). l ++ (getD b (i + w) 0 ∷ [])) (take-put w out b i h (omega arith) (omega arith) e)
     ∙ sym (take-suc b (i + w) 0 (omega arith)))
-
--- bytes behind a store stay
-drop-put : (w : ℕ) (b : List ℕ) (i v n : ℕ) → i + w ≤ n → drop n (putField w b i v) ≡ drop n b
-unfolding putField
-drop-put zero b i v n p = refl
-drop-put (suc w) b i v n p = drop-set-lt n (putField w b i (v / 256)) (i + w) (v % 256) (omega arith) ∙ drop-put w b i (v / 256) n (omega arith)
 
 -- ---- the bytes that the writer leaves
 

@@ -1,6 +1,5 @@
 -- The laws and theorems of `node` that belong to no single function. A reader starts at `Theorems`.
 pub mod Fresh
-pub mod Headers
 pub mod Images
 pub mod Lives
 pub mod Numbers
@@ -8,6 +7,5 @@ pub mod Orderly
 pub mod Sound
 pub mod SoundImages
 pub mod Stays
-pub mod Stores
 pub mod Taken
 pub mod Theorems

@@ -15,6 +15,10 @@ use Rattle.rules.specs.declared.node.Node.{Node}
 use Rattle.rules.specs.declared.node.Rule.{Rule}
 use Rattle.rules.specs.declared.node.Rule.the-variants.{Rest, Echo, Tick, Jump, Wake}
 
+-- bytes of the header; the rows stand behind it
+abbrev pub headerSize : ℕ
+headerSize = 32
+
 -- the window, the bytes of a mask, and header byte 3
 pub record Layout : Type 0 where
   pub window : ℕ

@@ -1,10 +1,10 @@
 -- The node's own description (01, "Limits"): the window, the last tick, the room that boot and deliver ask, and the fresh node.
 -- They stand here and on `Node` in the code, and nowhere else; every other definition takes them as parameters.
-use Prim.Native.Nat.{ℕ}
+use Prim.Native.Nat.{ℕ, _+_, _*_}
 use mathlib.Core.List.{List, [], _∷_, map}
 use Rattle.sets.specs.Ticks.{empty}
 use Rattle.evidence.specs.Rows.{Row}
-use Rattle.rules.specs.Record.{Outgoing, broadcast}
+use Rattle.rules.specs.Record.{Outgoing, broadcast, recordSize}
 use Rattle.rules.specs.declared.node.Node.{Node}
 
 abbrev pub window : ℕ
@@ -13,9 +13,13 @@ window = 64
 abbrev pub lastTick : ℕ
 lastTick = 4000000000
 
--- bytes of output: 16 records of 12
+-- how many rules one delivery may fire. From a sound image fewer do, so the count never decides (proofs/AtRest.antt)
+abbrev pub mostFirings : ℕ
+mostFirings = 15
+
+-- bytes of output: a record for each firing, and the answer
 abbrev pub room : ℕ
-room = 192
+room = (mostFirings + 1) * recordSize
 
 -- boot (01, "One delivery"): k = 0, last echo 0, passive
 abbrev pub freshNode : ℕ → ℕ → ℕ → Node

@@ -9,6 +9,10 @@ pub record Outgoing : Type 0 where
   pub kind : ℕ
   pub tick : ℕ
 
+-- bytes of a record
+abbrev pub recordSize : ℕ
+recordSize = 12
+
 -- init is kind 1, echo kind 2
 abbrev pub broadcast : ℕ → ℕ → Outgoing
 broadcast kind tick = record { dest = 0; kind = kind; tick = tick }

@@ -14,14 +14,10 @@ use Rattle.forms.specs.Form.{formWritten, putForm}
 use Rattle.forms.specs.Number.{verdictOf}
 use Rattle.forms.specs.Roster.{rosterNumber}
 use Rattle.forms.proofs.Rosters.{Limits, roster-limits}
+use Rattle.fields.proofs.Fields.{put-byte}
 use Rattle.forms.proofs.Told.{refusal}
 use Rattle.forms.proofs.form.write_form.Statement.{statement}
 use Rattle.forms.proofs.form.write_form.Tie as tie
-
--- a field of one byte
-put-byte : (b : List ℕ) (i v : ℕ) → v < 256 → putField 1 b i v ≡ set b i v
-unfolding putField
-put-byte b i v p = let low : v % 256 ≡ v = omega arith in rw (add-zero, low)
 
 -- the stores of the body, one after the other, are the form
 laid : (out : List ℕ) (f own : ℕ) (serials : List ℕ) → Limits f (length serials) → putWords 4 (putField 4 (putField 2 (set (set out 0 (length serials)) 1 f) 2 8) 4 own) 8 serials ≡ putForm out f own serials

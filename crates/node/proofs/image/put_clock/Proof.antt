@@ -6,7 +6,7 @@ use native.Mathlib.Omega.{arith}
 use denote.Ref.{now}
 use lib.ListN.{length, length-set}
 use Rattle.node.specs.Image.{putClock}
-use Rattle.node.proofs.Headers.{put-byte}
+use Rattle.fields.proofs.Fields.{put-byte}
 use Rattle.node.proofs.image.put_clock.Statement.{statement}
 use Rattle.node.proofs.image.put_clock.Tie as tie
 

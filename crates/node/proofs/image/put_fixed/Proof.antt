@@ -7,7 +7,7 @@ use denote.Ref.{now}
 use lib.Dec.{lit<}
 use lib.ListN.{length, length-set}
 use Rattle.node.specs.Image.{putFixed}
-use Rattle.node.proofs.Headers.{put-byte}
+use Rattle.fields.proofs.Fields.{put-byte}
 use Rattle.node.proofs.image.put_fixed.Statement.{statement}
 use Rattle.node.proofs.image.put_fixed.Tie as tie
 

@@ -6,7 +6,7 @@ use native.Mathlib.Omega.{arith}
 use denote.Ref.{now}
 use lib.ListN.{length, set, length-set}
 use Rattle.node.specs.Image.{layout, putFixed, putNode}
-use Rattle.node.proofs.Headers.{put-byte}
+use Rattle.fields.proofs.Fields.{put-byte}
 use Rattle.node.proofs.image.put_node.Statement.{statement}
 use Rattle.node.proofs.image.put_node.Tie as tie
 

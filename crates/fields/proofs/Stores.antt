@@ -12,8 +12,8 @@ use lib.ListN.{length, getD, take, drop}
 use lib.Seq.{split-at}
 use lib.Dec.{T, leb, leb→le}
 use mir.Facts.{and-yes, or-yes}
 use Rattle.fields.specs.Field.{field, putField, Bytes}
-use Rattle.fields.proofs.Fields.{field-same, field-put, field-put-other, getD-put-other, length-put, bytes-put}
+use Rattle.fields.proofs.Fields.{field-byte, field-same, field-put, field-put-other, getD-put-other, length-put, bytes-put}
 
 -- a value written over a field
 pub record Store : Type 0 where
@@ -74,11 +74,6 @@ stored-at b ss k p t room fits =
     let s = getD ss k (store 0 0 0) in
     ap (λ (l : List Store). field (s .width) (putStores b l) (s .place)) (split-at ss k (store 0 0 0) p)
     ∙ stored b (take k ss) (s .width) (s .place) (s .value) (drop (suc k) ss) t room fits
-
--- a byte is a field of one
-pub field-byte : (b : List ℕ) (i : ℕ) → field 1 b i ≡ getD b i 0
-unfolding field
-field-byte b i = rw add-zero (omega arith)
 
 -- bytes from a place on that no store reaches
 pub getD-stores : (b : List ℕ) (j : ℕ) (ss : List Store) → T (apart 1 j ss) → getD (putStores b ss) j 0 ≡ getD b j 0

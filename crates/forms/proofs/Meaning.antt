@@ -1,6 +1,6 @@
 -- Each number is given exactly when the paper says, and in no other case (01, "Numbers given back"). The rows of the paper's
--- table stand here once more as plain propositions, with no test and no count in them, and each theorem says for every k that
--- the number given is k exactly where the first row that applies has number k, and 0 where none applies.
+-- table are propositions (specs/Table.antt), and each theorem says for every k that the number given is k exactly where the first
+-- row that applies has number k, and 0 where none applies.
 -- Assumes nothing.
 use mathlib.Core.Path.{_≡_, refl, sym, _∙_, subst}
 use mathlib.Core.Logic.{_↔_, _≢_, _⊎_, inl, inr, Iff·trans, ⊎-map, ⊎-elim}
@@ -17,67 +17,8 @@ use Rattle.fields.specs.Field.{field}
 use Rattle.forms.specs.Roster.{count, twins, rosterNumber}
 use Rattle.forms.specs.Form.{linesOf, faultsOf, ownOf, serialsOf, misplaced, FormTold, formNumber, formTold, WriteTold, writeTold, formWritten}
 use Rattle.forms.specs.Frame.{badKind, FrameTold, frameNumber, frameTold, frameWritten}
+use Rattle.forms.specs.Table.{_or_, Misplaced, HasZero, Twice, Stranger, Beyond, BadKind, Misshapen, Check, _when_, Given, Says, rosterChecks, formChecks, frameChecks, roomCheck}
 use Rattle.fields.proofs.Words.{length-words}
-
-infixl 2 _or_
-infix 70 _when_
--- grouped to the left, as the tests are
-abbrev pub _or_ : Type 0 → Type 0 → Type 0
-A or B = A ⊎ B
-
--- ---- the paper's table
-
--- 1: shorter than 8, offset not 8, or length not 8 + 4n
-abbrev pub Misplaced : List ℕ → Type 0
-Misplaced b = (length b < 8) or (field 2 b 2 ≢ 8) or (length b ≢ 8 + 4 * linesOf b)
-
--- 2: n not 1..32, or n < 3f + 1
-abbrev pub Beyond : ℕ → ℕ → Type 0
-Beyond n f = (n < 1) or (32 < n) or (n < 3 * f + 1)
-
--- 3: a serial or the own serial is 0
-abbrev pub HasZero : ℕ → List ℕ → Type 0
-HasZero own serials = (own ≡ 0) or List·Memᴰ 0 serials
-
--- 4: a serial stands twice, on two different lines
-pub record Twice (serials : List ℕ) : Type 0 where
-  pub first : ℕ
-  pub second : ℕ
-  pub apart : first < second
-  pub listed : second < length serials
-  pub same : getD serials first 0 ≡ getD serials second 0
-
--- 5: own serial not in the list
-abbrev pub Stranger : ℕ → List ℕ → Type 0
-Stranger own serials = List·Memᴰ own serials → ⊥
-
--- 10, of the writer: kind not 1 or 2
-abbrev pub BadKind : ℕ → Type 0
-BadKind kind = (kind ≢ 1) × (kind ≢ 2)
-
--- 10: not 8 long, kind not 1 or 2, or bytes 1..3 not zero
-abbrev pub Misshapen : List ℕ → Type 0
-Misshapen b = (length b ≢ 8) or BadKind (getD b 0 0) or (getD b 1 0 ≢ 0) or (getD b 2 0 ≢ 0) or (getD b 3 0 ≢ 0)
-
--- ---- the first check that applies
-
-pub record Check : Type 1 where
-  pub number : ℕ
-  pub applies : Type 0
-
-abbrev pub _when_ : ℕ → Type 0 → Check
-n when C = record { number = n; applies = C }
-
--- what it means that the checks, made one after the other, give k. If k is the number of the first: that it applies. If not:
--- that it does not apply, and the others give k. Where no check is left, k is 0. At a numeral this computes: of a roster,
--- 4 is given where number 2's and number 3's conditions fail and number 4's holds
-abbrev pub Given : List Check → ℕ → Type 0
-Given [] k = k ≡ 0
-Given (check ∷ others) k = cond (eqb k (check .number)) (check .applies) ((check .applies → ⊥) × Given others k)
-
--- the number is what the checks give: it is k in the case that gives k, and in no other case
-pub record Says (number : ℕ) (checks : List Check) : Type 0 where
-  pub exactly : (k : ℕ) → (number ≡ k) ↔ Given checks k
 
 -- ---- what the counts mean
 
@@ -179,15 +120,6 @@ none = record { exactly = λ k. (sym, sym) }
 
 -- ---- the roster
 
--- numbers 2 to 5
-abbrev pub rosterChecks : ℕ → ℕ → ℕ → List ℕ → List Check
-rosterChecks n f own serials =
-    2 when Beyond n f
-    ∷ 3 when HasZero own serials
-    ∷ 4 when Twice serials
-    ∷ 5 when Stranger own serials
-    ∷ []
-
 zeros : (own : ℕ) (serials : List ℕ) → (0 < count 0 (own ∷ serials)) ↔ HasZero own serials
 zeros own serials =
     (λ p. ⊎-map sym (λ m. m) (List·Memᴰ·cases-cons (found 0 (own ∷ serials) p)), ⊎-elim (λ e. counted (List·Memᴰ·head (sym e))) (λ m. counted (List·Memᴰ·tail m)))
@@ -233,10 +165,6 @@ told number taken refused n p q = go (eqb n 0) refl
     go true e = p ∙ sym (eqb-true n 0 e)
     go false e = q
 
--- numbers 1 to 5
-abbrev pub formChecks : List ℕ → List Check
-formChecks b = 1 when Misplaced b ∷ rosterChecks (linesOf b) (faultsOf b) (ownOf b) (serialsOf b)
-
 -- the form reader tells `formNumber`
 pub form-told : (b : List ℕ) → formTold b .number ≡ formNumber b
 unfolding formTold
@@ -263,10 +191,6 @@ form-then b {next} {checks} says fresh =
     (in-front 1 (misplaced-says b) (λ g. fresh .0 (g .1 .1 .1 .1))
     (rw (length-words (linesOf b) 4 b 8) at (roster-then (faultsOf b) (ownOf b) (serialsOf b) says (fresh .1, fresh .2, fresh .3, fresh .4))))
 
--- numbers 10 and 11
-abbrev pub frameChecks : ℕ → List ℕ → List Check
-frameChecks last b = 10 when Misshapen b ∷ 11 when (last < field 4 b 4) ∷ []
-
 bad : (kind : ℕ) → Decides (badKind kind) (BadKind kind)
 bad kind = both _ _ (opposite _ (equal kind 1)) (opposite _ (equal kind 2))
 
@@ -287,10 +211,6 @@ frame-says last b =
     is0 i = opposite _ (equal (getD b i 0) 0)
 
 -- ---- the writers
-
--- 7, last, when the output is shorter than what would be written
-abbrev pub roomCheck : ℕ → List ℕ → Check
-roomCheck size out = 7 when (length out < size)
 
 room : (size : ℕ) (out : List ℕ) → Says (cond (ltb (length out) size) 7 0) (roomCheck size out ∷ [])
 room size out = in-front 7 (less (length out) size) (omega arith) none

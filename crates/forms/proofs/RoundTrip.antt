@@ -19,7 +19,8 @@ use Rattle.forms.specs.Form.{linesOf, faultsOf, ownOf, serialsOf, formNu
 use Rattle.forms.specs.Frame.{badKind, frameNumber, frameTold, putFrame, frameWritten, frameWriteNumber}
 use Rattle.fields.proofs.Fields.{field-byte, drop-put, field-same, field-put, field-put-other, put-field, length-put}
 use Rattle.fields.proofs.Words.{Words, length-words, words-same, length-putWords, field-putWords-before, words-putWords, putWords-words}
-use Rattle.forms.proofs.Meaning.{Given, formChecks, frameChecks, form-told, frame-told, roster-says, form-says, frame-says, form-writer-says, frame-writer-says}
+use Rattle.forms.specs.Table.{Given, formChecks, frameChecks}
+use Rattle.forms.proofs.Meaning.{form-told, frame-told, roster-says, form-says, frame-says, form-writer-says, frame-writer-says}
 
 -- ---- laws of stores
 

@@ -2,3 +2,4 @@ pub mod Form
 pub mod Frame
 pub mod Number
 pub mod Roster
+pub mod Table

@@ -16,7 +16,7 @@ use borrow.Author.Tests.{eqb-true}
 use Rattle.fields.specs.Field.{field, putField, Bytes}
 use Rattle.forms.specs.Form.{WriteTold}
 use Rattle.fields.proofs.Fields.{drop-put, field-same, field-put, field-put-other, length-put}
-use Rattle.forms.proofs.Meaning.{Check, _when_, Given, Says, roomCheck}
+use Rattle.forms.specs.Table.{Check, _when_, Given, Says, roomCheck}
 use Rattle.log.specs.Log.{countOf, eventsAt, formOf, eventsOf, logNumber, LogTold, logTold, lay, putLog, logWritten}
 use Rattle.log.proofs.Lays.{take-lay, drop-lay-behind, length-lay}
 use Rattle.log.proofs.Logs.{Laid, Fit, Judged, log-judged, judged-holds, told-laid, told-broken, logSize, written-fit, Answer, wrote, short, unfit, answer}

@@ -15,7 +15,8 @@ use Rattle.fields.specs.Field.{field, words}
 use Rattle.forms.specs.Form.{linesOf, formNumber}
 use Rattle.forms.specs.Frame.{frameNumber}
 use Rattle.forms.specs.Roster.{count}
-use Rattle.forms.proofs.Meaning.{Check, _when_, Given, Says, Decides, less, equal, opposite, in-front, none, formChecks, form-then, frameChecks, frame-says, frame-told, member-says}
+use Rattle.forms.specs.Table.{Check, _when_, Given, Says, formChecks, frameChecks}
+use Rattle.forms.proofs.Meaning.{Decides, less, equal, opposite, in-front, none, form-then, frame-says, frame-told, member-says}
 use Rattle.evidence.specs.Rows.{rowSize}
 use Rattle.node.specs.Calls.{Outcome, outcome, Reading, bootNumber, booted, deliverNumber, deliverOutcome, readNumber, reading}
 use Rattle.node.specs.Image.{Layout, imageSize, soundImage}

@@ -11,7 +11,8 @@ use native.Mathlib.Omega.{arith}
 use lib.ListN.{length, length-append, length-map}
 use lib.Dec.{ltb, leb, eqb}
 use Rattle.forms.specs.Roster.{rosterNumber}
-use Rattle.forms.proofs.Meaning.{Beyond, roster-says}
+use Rattle.forms.specs.Table.{Beyond}
+use Rattle.forms.proofs.Meaning.{roster-says}
 use Rattle.evidence.specs.Rows.{Row, credit, properRows}
 use Rattle.sets.specs.Ticks.{added}
 use Rattle.evidence.specs.Holders.{holders, greatest}

@@ -12,7 +12,7 @@ use lib.ListN.{length, getD}
 use lib.Dec.{lit<, lit≤}
 use mathlib.Core.Bool.{true}
 use Rattle.fields.specs.Field.{field, Bytes}
-use Rattle.forms.proofs.Meaning.{Says}
+use Rattle.forms.specs.Table.{Says}
 use Rattle.node.specs.Calls.{Outcome, bootNumber, freshState, booted, deliverNumber, deliveryOf, imageAfter, deliverOutcome, reading}
 use Rattle.node.specs.Calls.{Reading as Told}
 use Rattle.rules.specs.Delivery.{State, Delivered, delivered}

@@ -9,3 +9,4 @@ pub mod SoundImages
 pub mod Stays
 pub mod Taken
 pub mod Theorems
+pub mod Worked

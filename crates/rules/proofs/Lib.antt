@@ -3,4 +3,3 @@ pub mod AtRest
 pub mod Firing
 pub mod Modes
 pub mod Records
-pub mod Worked

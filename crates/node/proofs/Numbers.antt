@@ -19,7 +19,7 @@ use Rattle.forms.specs.Table.{Check, _when_, Given, Says, formChecks, frameChec
 use Rattle.forms.proofs.Meaning.{Decides, less, equal, opposite, in-front, none, form-then, frame-says, frame-told, member-says}
 use Rattle.evidence.specs.Rows.{rowSize}
 use Rattle.node.specs.Calls.{Outcome, outcome, Reading, bootNumber, booted, deliverNumber, deliverOutcome, readNumber, reading}
-use Rattle.node.specs.Image.{Layout, imageSize, soundImage}
+use Rattle.node.specs.Image.{Layout, imageSize, rosterIn, soundImage}
 
 -- the number that an outcome tells is the number that decides it
 decides : (number : ℕ) (image out : List ℕ) (done : Outcome) → done .number ≡ 0 → outcome number image out done .number ≡ number
@@ -45,10 +45,6 @@ boot-says L form image out =
     (form-then form (in-front 6 (less (length image) (imageSize L (linesOf form))) (omega arith) (in-front 7 (less (length out) 192) (omega arith) none)) (omega arith))
 
 -- ---- deliver: 7, 8, 9, then 10 and 11 of the frame
-
--- the serials of an image's rows
-abbrev pub rosterIn : Layout → List ℕ → List ℕ
-rosterIn L image = words (getD image 0 0) (rowSize (L .masks)) image 32
 
 abbrev pub deliverChecks : Layout → ℕ → List ℕ → ℕ → List ℕ → List ℕ → List Check
 deliverChecks L last image port frame out =

@@ -5,15 +5,15 @@ use mathlib.Core.List.{List}
 use mathlib.Core.Bool.{cond}
 use lib.ListN.{length, getD}
 use lib.Dec.{ltb, eqb}
-use Rattle.fields.specs.Field.{field, words}
+use Rattle.fields.specs.Field.{field}
 use Rattle.forms.specs.Form.{linesOf, faultsOf, ownOf, serialsOf, formNumber}
 use Rattle.forms.specs.Frame.{frameNumber}
 use Rattle.forms.specs.Number.{orElse}
 use Rattle.forms.specs.Roster.{count}
-use Rattle.evidence.specs.Rows.{rowSize, putRows}
+use Rattle.evidence.specs.Rows.{putRows}
 use Rattle.rules.specs.Delivery.{State, Delivered, delivered}
 use Rattle.rules.specs.Describe.{room, freshNode, freshRows, bootRecords}
-use Rattle.node.specs.Image.{Layout, imageSize, stateOf, putClock, putState, soundImage}
+use Rattle.node.specs.Image.{Layout, headerSize, imageSize, rosterIn, stateOf, putClock, putState, soundImage}
 use Rattle.rules.specs.Record.{putRecords}
 
 -- number, count of records, and every byte of image and output at exit
@@ -23,9 +23,13 @@ pub record Outcome : Type 0 where
   pub image : List ℕ
   pub out : List ℕ
 
--- the outcome that a number decides: of 0 what is done, of any other nothing
+-- a refusal: its number, no records, and no byte of image or output changed
+abbrev pub refused : ℕ → List ℕ → List ℕ → Outcome
+refused number image out = record { number = number; records = 0; image = image; out = out }
+
+-- the outcome that a number decides: of 0 what is done, of any other a refusal
 abbrev pub outcome : ℕ → List ℕ → List ℕ → Outcome → Outcome
-outcome number image out done = cond (eqb number 0) done (record { number = number; records = 0; image = image; out = out })
+outcome number image out done = cond (eqb number 0) done (refused number image out)
 
 -- ---- boot: 1 to 5, then 6, then 7
 
@@ -48,7 +52,7 @@ unfoldable pub deliverNumber : Layout → ℕ → List ℕ → ℕ → List ℕ 
 deliverNumber L last image port frame outLength =
     cond (ltb outLength room) 7
     (cond (soundImage L last image)
-    (cond (eqb (count port (words (getD image 0 0) (rowSize (L .masks)) image 32)) 0) 9 (frameNumber last frame)) 8)
+    (cond (eqb (count port (rosterIn L image)) 0) 9 (frameNumber last frame)) 8)
 
 -- the delivery of a frame that is taken
 unfoldable pub deliveryOf : Layout → ℕ → List ℕ → ℕ → List ℕ → Delivered
@@ -56,7 +60,7 @@ deliveryOf L last image port frame = delivered (L .window) last (stateOf L image
 
 -- it changes only k, mode, last echo and the port's row
 unfoldable pub imageAfter : Layout → List ℕ → Delivered → List ℕ
-imageAfter L image d = putClock (putRows (L .masks) image 32 (d .state .rows)) (d .state .node)
+imageAfter L image d = putClock (putRows (L .masks) image headerSize (d .state .rows)) (d .state .node)
 
 unfoldable pub deliverOutcome : Layout → ℕ → List ℕ → ℕ → List ℕ → List ℕ → Outcome
 deliverOutcome L last image port frame out =
@@ -74,10 +78,13 @@ pub record Reading : Type 0 where
   pub number : ℕ
   pub clock : ℕ
 
+-- a refusal gives clock 0
+abbrev pub unread : ℕ → Reading
+unread number = record { number = number; clock = 0 }
+
 unfoldable pub readNumber : Layout → ℕ → List ℕ → ℕ
 readNumber L last image = cond (soundImage L last image) (cond (eqb (getD image 2 0) 0) 12 0) 8
 
 unfoldable pub reading : Layout → ℕ → List ℕ → Reading
 reading L last image =
-    cond (eqb (readNumber L last image) 0) (record { number = 0; clock = field 4 image 8 })
-    (record { number = readNumber L last image; clock = 0 })
+    cond (eqb (readNumber L last image) 0) (record { number = 0; clock = field 4 image 8 }) (unread (readNumber L last image))

@@ -1,12 +1,13 @@
 -- The node image (01, "Layouts" and "One delivery"): bytes to node and back, and when an image is sound. The layout is a small
 -- record, so that another window with wider masks is another value of it and not another definition.
-use Prim.Native.Nat.{ℕ, _+_, _*_}
+use Prim.Native.Nat.{ℕ, _+_, _*_, _≤_, _<_}
 use mathlib.Core.List.{List, map}
 use mathlib.Core.Bool.{Bool, true, false, cond, not, _&&_, _||_}
 use lib.ListN.{length, getD}
 use lib.Dec.{ltb, leb, eqb}
 use Rattle.fields.specs.Field.{field, putField, words}
-use Rattle.forms.specs.Roster.{rosterNumber}
+use Rattle.forms.specs.Roster.{mostLines, rosterNumber}
+use Rattle.sets.specs.Sets.{maskBytes}
 use Rattle.evidence.specs.Rows.{Row, rowSize, rowsAt, putRows, properRows}
 use Rattle.rules.specs.Rules.{firstRule}
 use Rattle.rules.specs.Delivery.{State}
@@ -26,10 +27,10 @@ pub record Layout : Type 0 where
   pub mark : ℕ
 
 abbrev pub layout : Layout
-layout = record { window = window; masks = 8; mark = 0 }
+layout = record { window = window; masks = maskBytes; mark = 0 }
 
 abbrev pub imageSize : Layout → ℕ → ℕ
-imageSize L n = 32 + n * rowSize (L .masks)
+imageSize L n = headerSize + n * rowSize (L .masks)
 
 -- ---- bytes to node
 
@@ -38,14 +39,29 @@ unfoldable pub nodeOf : List ℕ → Node
 nodeOf b =
     record { lines = getD b 0 0; faults = getD b 1 0; own = field 4 b 4; mode = getD b 2 0; tick = field 4 b 8; sent = field 4 b 12 }
 
--- the rows, from place 32 on
+-- the rows, from behind the header on
 abbrev pub rowsOf : Layout → List ℕ → List Row
-rowsOf L b = rowsAt (L .masks) (getD b 0 0) b 32
+rowsOf L b = rowsAt (L .masks) (getD b 0 0) b headerSize
+
+-- their serials
+abbrev pub rosterIn : Layout → List ℕ → List ℕ
+rosterIn L b = words (getD b 0 0) (rowSize (L .masks)) b headerSize
 
 unfoldable pub stateOf : Layout → List ℕ → State
 stateOf L b = record { node = nodeOf b; rows = rowsOf L b }
 
+-- a node with the rows that an image's bytes hold for it
+abbrev pub stateWith : Layout → Node → List ℕ → State
+stateWith L p b = record { node = p; rows = rowsAt (L .masks) (p .lines) b headerSize }
+
 -- ---- node to bytes
+
+-- a header can be written: there is room, and its numbers fit their bytes
+pub record Writable (p : Node) (b : List ℕ) : Type 0 where
+  pub inside : headerSize ≤ length b
+  pub lines : p .lines ≤ mostLines
+  pub faults : p .faults < 256
+  pub mode : p .mode < 256
 
 -- what a delivery changes in the header
 unfoldable pub putClock : List ℕ → Node → List ℕ
@@ -54,7 +70,9 @@ putClock b p = putField 4 (putField 4 (putField 1 b 2 (p .mode)) 8 (p .tick)) 12
 -- byte 3; 16..17 offset of the rows (32); 18..19 whole size; 20..31 zero
 unfoldable pub putFixed : Layout → List ℕ → ℕ → List ℕ
 putFixed L b n =
-    putField 4 (putField 4 (putField 4 (putField 2 (putField 2 (putField 1 b 3 (L .mark)) 16 32) 18 (imageSize L n)) 20 0) 24 0) 28 0
+    let marked = putField 1 b 3 (L .mark) in
+    let sized = putField 2 (putField 2 marked 16 headerSize) 18 (imageSize L n) in
+    putField 4 (putField 4 (putField 4 sized 20 0) 24 0) 28 0
 
 unfoldable pub putNode : Layout → List ℕ → Node → List ℕ
 putNode L b p =
@@ -62,14 +80,14 @@ putNode L b p =
 
 -- a whole image over the front of a buffer; bytes behind its size stay
 unfoldable pub putState : Layout → List ℕ → State → List ℕ
-putState L b s = putRows (L .masks) (putNode L b (s .node)) 32 (s .rows)
+putState L b s = putRows (L .masks) (putNode L b (s .node)) headerSize (s .rows)
 
 -- ---- a sound image
 
 -- the fixed header values
 unfoldable pub fixedHeader : Layout → List ℕ → Bool
 fixedHeader L b =
-    eqb (getD b 3 0) (L .mark) && (eqb (field 2 b 16) 32 && (eqb (field 2 b 18) (imageSize L (getD b 0 0))
+    eqb (getD b 3 0) (L .mark) && (eqb (field 2 b 16) headerSize && (eqb (field 2 b 18) (imageSize L (getD b 0 0))
     && (eqb (field 4 b 20) 0 && (eqb (field 4 b 24) 0 && eqb (field 4 b 28) 0))))
 
 abbrev pub atRest : Rule → Bool
@@ -89,4 +107,5 @@ soundState w last s =
 -- number 8: buffer shorter than 32 or than its stated size, or image not sound
 unfoldable pub soundImage : Layout → ℕ → List ℕ → Bool
 soundImage L last b =
-    not (ltb (length b) 32) && (not (ltb (length b) (field 2 b 18)) && (fixedHeader L b && soundState (L .window) last (stateOf L b)))
+    not (ltb (length b) headerSize) && (not (ltb (length b) (field 2 b 18))
+    && (fixedHeader L b && soundState (L .window) last (stateOf L b)))

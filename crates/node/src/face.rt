@@ -1,11 +1,14 @@
 // The face to truck firmware in C: boot, deliver and read on byte buffers. Nothing has to be checked beforehand but that the
 // buffers are real memory of the stated length and do not overlap. A refusal gives its number and changes no byte.
+use crate::image::HEADER;
 use crate::image::is_sound;
 use crate::image::put_clock;
 use crate::image::put_fresh_rows;
 use crate::image::put_node;
 use crate::image::read_node;
+use evidence::rows::ROW;
 use fields::field::word;
+use fields::kind::ECHO;
 use forms::form::Form;
 use forms::form::FormRead;
 use forms::form::read_form;
@@ -43,7 +46,8 @@ pub struct Reading {
 // Makes a fresh node of a form.
 #[no_mangle]
 pub extern "C" fn pebrassola_boot(form: &[u8], image: &mut [u8], out: &mut [u8]) -> Answer
-    ensures { λ r. ⌜ outcomeBy r (now (image .exit)) (now (out .exit)) ≡ booted layout (now (form .entry)) (now (image .entry)) (now (out .entry)) ⌝ }
+    ensures { λ r. ⌜ outcomeBy r (now (image .exit)) (now (out .exit))
+        ≡ booted layout (now (form .entry)) (now (image .entry)) (now (out .entry)) ⌝ }
 {
     let told = read_form(form);
     match told {
@@ -53,7 +57,7 @@ pub extern "C" fn pebrassola_boot(form: &[u8], image: &mut [u8], out: &mut [u8])
         },
         FormRead::Taken(roster) => {
             let n = roster.lines as usize;
-            if image.len() < 32 + n * 28 {
+            if image.len() < HEADER + n * ROW {
                 return Answer {
                     number: 6,
                     records: 0,
@@ -67,7 +71,7 @@ pub extern "C" fn pebrassola_boot(form: &[u8], image: &mut [u8], out: &mut [u8])
             }
             put_node(image, Node::new(roster.lines, roster.faults, roster.own));
             put_fresh_rows(image, form, n);
-            put_record(out, 0, 0, 2, 0);
+            put_record(out, 0, 0, ECHO, 0);
             Answer {
                 number: 0,
                 records: 1,
@@ -87,7 +91,7 @@ fn deliver_number(image: &[u8], port: u32, frame: &[u8], room: usize) -> u32
         return 8;
     }
     let n = image[0] as usize;
-    if count_word(image, 32, 28, n, port) == 0 {
+    if count_word(image, HEADER, ROW, n, port) == 0 {
         return 9;
     }
     match read_frame(frame, Node::LAST_TICK) {
@@ -104,7 +108,8 @@ pub extern "C" fn pebrassola_deliver(
     frame: &[u8],
     out: &mut [u8],
 ) -> Answer
-    ensures { λ r. ⌜ outcomeBy r (now (image .exit)) (now (out .exit)) ≡ deliverOutcome layout lastTick (now (image .entry)) port (now (frame .entry)) (now (out .entry)) ⌝ }
+    ensures { λ r. ⌜ outcomeBy r (now (image .exit)) (now (out .exit))
+        ≡ deliverOutcome layout lastTick (now (image .entry)) port (now (frame .entry)) (now (out .entry)) ⌝ }
 {
     let room = out.len();
     let number = deliver_number(image, port, frame, room);
@@ -116,7 +121,7 @@ pub extern "C" fn pebrassola_deliver(
         tick: word(frame, 4),
     };
     let node = read_node(image);
-    let next = node.deliver(image, 32, port, taken, out);
+    let next = node.deliver(image, HEADER, port, taken, out);
     put_clock(image, next.node);
     Answer {
         number: 0,

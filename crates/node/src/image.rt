@@ -1,4 +1,5 @@
 // The node image in lent bytes: its header read and written, its rows made, and whether it is sound.
+use evidence::rows::ROW;
 use evidence::rows::are_proper;
 use evidence::rows::store_set;
 use fields::field::half;
@@ -14,17 +15,28 @@ ghost use mathlib.Core.Path.{_≡_};
 ghost use Prim.Native.Nat.{_+_, _*_, _≤_, _<_};
 ghost use lib.ListN.{length};
 ghost use Rattle.fields.specs.Field.{words};
-ghost use Rattle.evidence.specs.Rows.{rowsAt, putRows};
+ghost use Rattle.forms.specs.Form.{serialsPlace};
+ghost use Rattle.forms.specs.Roster.{mostLines};
+ghost use Rattle.sets.specs.Sets.{maskBytes};
+ghost use Rattle.evidence.specs.Rows.{putRows};
 ghost use Rattle.rules.specs.Describe.{window, lastTick, freshRows};
-ghost use Rattle.node.specs.Image.{layout, nodeOf, stateOf, fixedHeader, atRest, putClock, putFixed, putNode, soundState, soundImage};
-ghost use Rattle.rules.specs.Steps.{RowsIn};
+ghost use Rattle.node.specs.Image.{layout, headerSize, imageSize, nodeOf, stateWith, fixedHeader, atRest};
+ghost use Rattle.node.specs.Image.{Writable, putClock, putFixed, putNode, soundState, soundImage};
 
 // Bytes of the header; the rows stand behind it.
-pub const HEADER: usize = 32;
+pub(crate) const HEADER: usize = 32;
+
+// Offset and size of the rows as the header's fields state them.
+const OFFSET: u32 = HEADER as u32;
+
+const STRIDE: u32 = ROW as u32;
+
+// Byte 3, which tells this form of an image from others.
+const MARK: u8 = 0;
 
 // The node of a header.
-pub fn read_node(b: &[u8]) -> Node
-    requires { ⌜ 32 ≤ length (now b) ⌝ }
+pub(crate) fn read_node(b: &[u8]) -> Node
+    requires { ⌜ headerSize ≤ length (now b) ⌝ }
     ensures { λ r. ⌜ r ≡ nodeOf (now (b .entry)) ⌝ }
 {
     Node {
@@ -39,14 +51,14 @@ pub fn read_node(b: &[u8]) -> Node
 
 // Byte 3, the offset of the rows, the whole size, and the zeros behind it.
 fn has_fixed_header(b: &[u8]) -> bool
-    requires { ⌜ 32 ≤ length (now b) ⌝ }
+    requires { ⌜ headerSize ≤ length (now b) ⌝ }
     ensures { λ r. ⌜ r ≡ fixedHeader layout (now (b .entry)) ⌝ }
 {
-    let size = 32 + 28 * (b[0] as u32);
-    if b[3] != 0 {
+    let size = OFFSET + STRIDE * (b[0] as u32);
+    if b[3] != MARK {
         return false;
     }
-    if half(b, 16) != 32 {
+    if half(b, 16) != OFFSET {
         return false;
     }
     if half(b, 18) != size {
@@ -69,11 +81,11 @@ fn is_at_rest(rule: Rule) -> bool
 
 // Whether the node and its rows are as a sound image holds them.
 fn is_sound_state(b: &[u8], node: Node) -> bool
-    requires { ⌜ (32 + node .lines * 28 ≤ length (now b)) ⌝ }
-    ensures { λ r. ⌜ r ≡ soundState window lastTick (record { node = node; rows = rowsAt 8 (node .lines) (now (b .entry)) 32 }) ⌝ }
+    requires { ⌜ imageSize layout (node .lines) ≤ length (now b) ⌝ }
+    ensures { λ r. ⌜ r ≡ soundState window lastTick (stateWith layout node (now (b .entry))) ⌝ }
 {
     let n = node.lines as usize;
-    if let Verdict::Broken(_) = judge(node.faults, node.own, b, 32, 28, n) {
+    if let Verdict::Broken(_) = judge(node.faults, node.own, b, HEADER, ROW, n) {
         return false;
     }
     if 1 < node.mode {
@@ -85,14 +97,14 @@ fn is_sound_state(b: &[u8], node: Node) -> bool
     if Node::LAST_TICK < node.tick {
         return false;
     }
-    if !are_proper(b, 32, n, Node::WINDOW, Node::LAST_TICK) {
+    if !are_proper(b, HEADER, n, Node::WINDOW, Node::LAST_TICK) {
         return false;
     }
-    is_at_rest(node.rule(b, 32))
+    is_at_rest(node.rule(b, HEADER))
 }
 
 // Whether a buffer holds a sound image: all that number 8 asks.
-pub fn is_sound(b: &[u8]) -> bool
+pub(crate) fn is_sound(b: &[u8]) -> bool
     ensures { λ r. ⌜ r ≡ soundImage layout lastTick (now (b .entry)) ⌝ }
 {
     if b.len() < HEADER {
@@ -108,8 +120,8 @@ pub fn is_sound(b: &[u8]) -> bool
 }
 
 // Writes mode, k and the last echo sent: what a delivery changes in the header.
-pub fn put_clock(b: &mut [u8], node: Node)
-    requires { ⌜ (32 ≤ length (now b)) × (node .mode < 256) ⌝ }
+pub(crate) fn put_clock(b: &mut [u8], node: Node)
+    requires { ⌜ (headerSize ≤ length (now b)) × (node .mode < 256) ⌝ }
     ensures { λ _. ⌜ now (b .exit) ≡ putClock (now (b .entry)) node ⌝ }
 {
     b[2] = node.mode as u8;
@@ -119,20 +131,20 @@ pub fn put_clock(b: &mut [u8], node: Node)
 
 // Writes the fixed values of a header for n rows.
 fn put_fixed(b: &mut [u8], n: u32)
-    requires { ⌜ (32 ≤ length (now b)) × (n ≤ 32) ⌝ }
+    requires { ⌜ (headerSize ≤ length (now b)) × (n ≤ mostLines) ⌝ }
     ensures { λ _. ⌜ now (b .exit) ≡ putFixed layout (now (b .entry)) n ⌝ }
 {
-    b[3] = 0;
-    put_half(b, 16, 32);
-    put_half(b, 18, 32 + n * 28);
+    b[3] = MARK;
+    put_half(b, 16, OFFSET);
+    put_half(b, 18, OFFSET + n * STRIDE);
     put_word(b, 20, 0);
     put_word(b, 24, 0);
     put_word(b, 28, 0);
 }
 
 // Writes a whole header.
-pub fn put_node(b: &mut [u8], node: Node)
-    requires { ⌜ (32 ≤ length (now b)) × (node .lines ≤ 32) × (node .faults < 256) × (node .mode < 256) ⌝ }
+pub(crate) fn put_node(b: &mut [u8], node: Node)
+    requires { ⌜ Writable node (now b) ⌝ }
     ensures { λ _. ⌜ now (b .exit) ≡ putNode layout (now (b .entry)) node ⌝ }
 {
     put_fixed(b, node.lines);
@@ -143,13 +155,14 @@ pub fn put_node(b: &mut [u8], node: Node)
 }
 
 // Writes a row with empty sets for each of the n serials of a form.
-pub fn put_fresh_rows(b: &mut [u8], form: &[u8], n: usize)
-    requires { ⌜ (32 + n * 28 ≤ length (now b)) × (8 + n * 4 ≤ length (now form)) ⌝ }
-    ensures { λ _. ⌜ now (b .exit) ≡ putRows 8 (now (b .entry)) 32 (freshRows (words n 4 (now (form .entry)) 8)) ⌝ }
+pub(crate) fn put_fresh_rows(b: &mut [u8], form: &[u8], n: usize)
+    requires { ⌜ (imageSize layout n ≤ length (now b)) × (serialsPlace + n * 4 ≤ length (now form)) ⌝ }
+    ensures { λ _. ⌜ now (b .exit)
+        ≡ putRows maskBytes (now (b .entry)) headerSize (freshRows (words n 4 (now (form .entry)) serialsPlace)) ⌝ }
 {
     let mut k = 0;
     while k < n {
-        let at = 32 + k * 28;
+        let at = HEADER + k * ROW;
         put_word(b, at, word(form, 8 + k * 4));
         store_set(b, at + 4, Ticks::none());
         store_set(b, at + 16, Ticks::none());

@@ -2,7 +2,7 @@
 -- as the node that follows, and a sound image written again is the same bytes. Over the layout.
 -- Assumes nothing.
 use mathlib.Core.Path.{_≡_, refl, sym, ap, ap₂, _∙_, subst}
-use mathlib.Core.Bool.{Bool, true, false, cond, not, _&&_}
+use mathlib.Core.Bool.{Bool, true, _&&_, and-eq-true-iff}
 use mathlib.Core.List.{List, [], _∷_, _++_, map}
 use Prim.Native.Nat.{ℕ, zero, suc, _+_, _-_, _*_, _^_, _≤_, _<_}
 use native.Mathlib.Omega.{arith}
@@ -106,7 +106,7 @@ module _ (L : Layout) (b : List ℕ) (p : Node) (fine : Fine L) (f : NodeFits p)
       (both (eq-eqb _ 0 (stored-at b ss 4 (lit< tt) tt (omega arith) (lit< tt))) (eq-eqb _ 0 (stored-at b ss 5 (lit< tt) tt (omega arith) (lit< tt)))))))
     where
       both : {a b : Bool} → a ≡ true → b ≡ true → (a && b) ≡ true
-      both x y = ap₂ (λ (u v : Bool). u && v) x y
+      both {a} {b} x y = and-eq-true-iff a b .1 (x, y)
 
   pub fixed-read-back : fixedHeader L (putNode L b p) ≡ true
   unfolding ss
@@ -262,18 +262,14 @@ pub record Fixed (L : Layout) (b : List ℕ) : Type 0 where
   pub zero₂ : field 4 b 24 ≡ 0
   pub zero₃ : field 4 b 28 ≡ 0
 
-and-both : (a b : Bool) → (a && b) ≡ true → (a ≡ true) × (b ≡ true)
-and-both true b e = (refl, e)
-and-both false b e = absurd (subst (λ (x : Bool). elim x as (λ (y : Bool). Type 0) [ true ↦ ⊥ | false ↦ Unit {0} ]) e tt)
-
 pub fixed-facts : (L : Layout) (b : List ℕ) → fixedHeader L b ≡ true → Fixed L b
 unfolding fixedHeader
 fixed-facts L b e =
-    let c = and-both _ _ e in
-    let d = and-both _ _ (c .1) in
-    let f = and-both _ _ (d .1) in
-    let g = and-both _ _ (f .1) in
-    let h = and-both _ _ (g .1) in
+    let c = and-eq-true-iff _ _ .0 e in
+    let d = and-eq-true-iff _ _ .0 (c .1) in
+    let f = and-eq-true-iff _ _ .0 (d .1) in
+    let g = and-eq-true-iff _ _ .0 (f .1) in
+    let h = and-eq-true-iff _ _ .0 (g .1) in
     record { mark = eqb-true _ _ (c .0); offset = eqb-true _ _ (d .0); size = eqb-true _ _ (f .0); zero₁ = eqb-true _ _ (g .0); zero₂ = eqb-true _ _ (h .0); zero₃ = eqb-true _ _ (h .1) }
 
 pub state-again : (L : Layout) (b : List ℕ) → Bytes b → fixedHeader L b ≡ true → putState L b (stateOf L b) ≡ b

@@ -29,7 +29,7 @@ use Rattle.node.specs.Runs.{Call, Deliver, Read, under, Seen, seenBy, se
 use Rattle.rules.specs.declared.node.Node.{Node}
 use Rattle.node.proofs.Images.{bytes-putClock, bytes-putState}
 use Rattle.node.proofs.Orderly.{delivery-order, under-order}
-use Rattle.node.proofs.SoundImages.{Works, Follows, delivery-sound, deliver-done, deliver-refused, Begins, boot-sound, boot-done, boot-kept}
+use Rattle.node.proofs.SoundImages.{Works, Follows, delivery-sound, deliver-done, deliver-refused, Begins, boot-sound, boot-done, boot-refused}
 
 -- ---- two images that a truck cannot tell apart
 
@@ -211,7 +211,7 @@ module _ (b c : List ℕ) (r : Reordered b c) where
             image = pair-of L last works small _ _ _ _ (x .sound) (y .sound) (bytes-putState L image (freshState b) i) (bytes-putState L image (freshState c) i) (x .state) (y .state) fresh-matched;
           })
       go (no n) =
-          subst₂ (Met L last) (sym (boot-kept L b image out n)) (sym (boot-kept L c image out (λ e. n (number ∙ e))))
+          subst₂ (Met L last) (sym (boot-refused L b image out n)) (sym (boot-refused L c image out (λ e. n (number ∙ e))))
           (record { number = number; records = refl; out = refl; image = equal refl })
 
 -- the order of a form's serial lines decides nothing that a truck can see

@@ -18,14 +18,14 @@ use Rattle.forms.specs.Roster.{count}
 use Rattle.forms.specs.Table.{Check, _when_, Given, Says, formChecks, frameChecks}
 use Rattle.forms.proofs.Meaning.{Decides, less, equal, opposite, in-front, none, form-then, frame-says, frame-told, member-says}
 use Rattle.evidence.specs.Rows.{rowSize}
-use Rattle.node.specs.Calls.{Outcome, outcome, Reading, bootNumber, booted, deliverNumber, deliverOutcome, readNumber, reading}
+use Rattle.node.specs.Calls.{Outcome, refused, outcome, Reading, bootNumber, booted, deliverNumber, deliverOutcome, readNumber, reading}
 use Rattle.node.specs.Image.{Layout, imageSize, rosterIn, soundImage}
 
 -- the number that an outcome tells is the number that decides it
 decides : (number : ℕ) (image out : List ℕ) (done : Outcome) → done .number ≡ 0 → outcome number image out done .number ≡ number
 decides number image out done e = go (eqb number 0) refl
   where
-    go : (t : Bool) → eqb number 0 ≡ t → (cond t done (record { number = number; records = 0; image = image; out = out })) .number ≡ number
+    go : (t : Bool) → eqb number 0 ≡ t → (cond t done (refused number image out)) .number ≡ number
     go true f = e ∙ sym (eqb-true number 0 f)
     go false f = refl
 

@@ -19,6 +19,7 @@ use Rattle.evidence.proofs.Layouts.{serials-of-rows}
 use Rattle.rules.specs.Delivery.{State}
 use Rattle.node.specs.Image.{Layout, layout, imageSize, nodeOf, stateOf, fixedHeader, atRest, soundState, soundImage}
 use Rattle.rules.specs.Rules.{firstRule}
+use Rattle.node.proofs.Images.{fixed-facts}
 use Rattle.rules.specs.Steps.{RowsIn}
 
 -- ---- the parts of the tests
@@ -37,18 +38,15 @@ pub record SoundBytes (L : Layout) (last : ℕ) (b : List ℕ) : Type 0 where
   pub fixed : fixedHeader L b ≡ true
   pub node : SoundNode (L .window) last (stateOf L b)
 
-both : (s t : Bool) → (s && t) ≡ true → (s ≡ true) × (t ≡ true)
-both s t e = and-eq-true-iff s t .0 e
-
 module _ (w last : ℕ) (s : State) where
   pub sound-node : soundState w last s ≡ true → SoundNode w last s
   unfolding soundState
   sound-node e =
-      let roster = both _ _ e in
-      let mode = both _ _ (roster .1) in
-      let sent = both _ _ (mode .1) in
-      let tick = both _ _ (sent .1) in
-      let proper = both _ _ (tick .1) in
+      let roster = and-eq-true-iff _ _ .0 e in
+      let mode = and-eq-true-iff _ _ .0 (roster .1) in
+      let sent = and-eq-true-iff _ _ .0 (mode .1) in
+      let tick = and-eq-true-iff _ _ .0 (sent .1) in
+      let proper = and-eq-true-iff _ _ .0 (tick .1) in
       record {
         roster = eqb-true _ _ (roster .0);
         mode = leb-true _ _ (mode .0);
@@ -67,9 +65,9 @@ module _ (L : Layout) (last : ℕ) (b : List ℕ) where
   pub sound-bytes : soundImage L last b ≡ true → SoundBytes L last b
   unfolding soundImage
   sound-bytes e =
-      let header = both _ _ e in
-      let stated = both _ _ (header .1) in
-      let fixed = both _ _ (stated .1) in
+      let header = and-eq-true-iff _ _ .0 e in
+      let stated = and-eq-true-iff _ _ .0 (header .1) in
+      let fixed = and-eq-true-iff _ _ .0 (stated .1) in
       record {
         header = ltb-false _ _ (not-true _ (header .0));
         stated = ltb-false _ _ (not-true _ (stated .0));
@@ -82,18 +80,10 @@ module _ (L : Layout) (last : ℕ) (b : List ℕ) where
   bytes-sound h =
       rw (le-ltb (length b) 32 (h .header), le-ltb (length b) (field 2 b 18) (h .stated), h .fixed, node-sound (L .window) last (stateOf L b) (h .node))
 
--- ---- the stated size is what n says, and the rows lie inside
-
-pub stated-size : (L : Layout) (b : List ℕ) → fixedHeader L b ≡ true → field 2 b 18 ≡ imageSize L (getD b 0 0)
-unfolding fixedHeader
-stated-size L b e =
-    let mark = both (eqb (getD b 3 0) (L .mark)) _ e in
-    let offset = both (eqb (field 2 b 16) 32) _ (mark .1) in
-    let size = both (eqb (field 2 b 18) (imageSize L (getD b 0 0))) (eqb (field 4 b 20) 0 && (eqb (field 4 b 24) 0 && eqb (field 4 b 28) 0)) (offset .1) in
-    eqb-true _ _ (size .0)
+-- ---- the rows lie inside the stated size, which is what n says
 
 pub rows-inside : (L : Layout) (b : List ℕ) → fixedHeader L b ≡ true → field 2 b 18 ≤ length b → imageSize L (getD b 0 0) ≤ length b
-rows-inside L b e p = subst (λ (n : ℕ). n ≤ length b) (stated-size L b e) p
+rows-inside L b e p = subst (λ (n : ℕ). n ≤ length b) (fixed-facts L b e .size) p
 
 -- ---- a roster in order
 

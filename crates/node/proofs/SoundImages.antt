@@ -20,15 +20,15 @@ use Rattle.sets.specs.Ticks.{empty}
 use Rattle.evidence.specs.Rows.{Row, rowSize, rowsAt, credit, putRows}
 use Rattle.evidence.proofs.Layouts.{length-rows}
 use Rattle.evidence.proofs.Encoded.{SetFits, RowsFit, rows-fit, credit-fits, length-credit}
-use Rattle.node.specs.Calls.{Outcome, outcome, bootNumber, freshState, booted, deliverNumber, deliveryOf, imageAfter, deliverOutcome}
+use Rattle.node.specs.Calls.{Outcome, refused, outcome, bootNumber, freshState, bootDone, booted, deliverNumber, deliveryOf, imageAfter, deliverDone, deliverOutcome}
 use Rattle.rules.specs.Delivery.{State, Delivered, delivered}
 use Rattle.rules.specs.Describe.{freshNode, freshRows, bootRecords}
 use Rattle.node.specs.Image.{Layout, imageSize, nodeOf, stateOf, fixedHeader, soundImage, putClock, putState}
 use Rattle.rules.specs.Record.{putRecords}
 use Rattle.rules.specs.declared.node.Node.{Node}
 use Rattle.node.proofs.Fresh.{fresh-serials, fresh-length, fresh-sound}
-use Rattle.node.proofs.Images.{Fine, NodeFits, state-after, fixed-after, length-after, node-after, state-read-back, fixed-of-state, length-putState}
-use Rattle.node.proofs.Sound.{SoundNode, SoundBytes, sound-bytes, bytes-sound, rows-inside, stated-size}
+use Rattle.node.proofs.Images.{fixed-facts, Fine, NodeFits, state-after, fixed-after, length-after, node-after, state-read-back, fixed-of-state, length-putState}
+use Rattle.node.proofs.Sound.{SoundNode, SoundBytes, sound-bytes, bytes-sound, rows-inside}
 use Rattle.node.proofs.Stays.{Sound, Ordered, sound-facts, sound-test, sound-after, ordered-after}
 use Rattle.node.proofs.Taken.{Taken, deliver-taken, WholeFrame, frame-whole}
 
@@ -43,28 +43,34 @@ pub record Works (L : Layout) : Type 0 where
 -- ---- what a number decides
 
 decided : (number : ℕ) (image out : List ℕ) (done : Outcome) → number ≡ 0 → outcome number image out done ≡ done
-decided number image out done e = ap (λ (t : Bool). cond t done (record { number = number; records = 0; image = image; out = out })) (eq-eqb number 0 e)
+decided number image out done e = ap (λ (t : Bool). cond t done (refused number image out)) (eq-eqb number 0 e)
 
-refused : (number : ℕ) (image out : List ℕ) (done : Outcome) → (number ≡ 0 → ⊥) → outcome number image out done ≡ record { number = number; records = 0; image = image; out = out }
-refused number image out done n = ap (λ (t : Bool). cond t done (record { number = number; records = 0; image = image; out = out })) (ne-eqb number 0 n)
+undone : (number : ℕ) (image out : List ℕ) (done : Outcome) → (number ≡ 0 → ⊥) → outcome number image out done ≡ refused number image out
+undone number image out done n = ap (λ (t : Bool). cond t done (refused number image out)) (ne-eqb number 0 n)
 
 module _ (L : Layout) (last : ℕ) (image : List ℕ) (port : ℕ) (frame out : List ℕ) where
-  pub deliver-done : deliverNumber L last image port frame (length out) ≡ 0 → deliverOutcome L last image port frame out ≡ record { number = 0; records = length (deliveryOf L last image port frame .records); image = imageAfter L image (deliveryOf L last image port frame); out = putRecords out 0 (deliveryOf L last image port frame .records) }
-  unfolding deliverOutcome
-  deliver-done e = decided (deliverNumber L last image port frame (length out)) image out _ e
+  abbrev number : ℕ
+  number = deliverNumber L last image port frame (length out)
 
-  pub deliver-refused : (deliverNumber L last image port frame (length out) ≡ 0 → ⊥) → deliverOutcome L last image port frame out ≡ record { number = deliverNumber L last image port frame (length out); records = 0; image = image; out = out }
+  pub deliver-done : number ≡ 0 → deliverOutcome L last image port frame out ≡ deliverDone L last image port frame out
   unfolding deliverOutcome
-  deliver-refused n = refused (deliverNumber L last image port frame (length out)) image out _ n
+  deliver-done e = decided number image out _ e
+
+  pub deliver-refused : (number ≡ 0 → ⊥) → deliverOutcome L last image port frame out ≡ refused number image out
+  unfolding deliverOutcome
+  deliver-refused n = undone number image out _ n
 
 module _ (L : Layout) (form image out : List ℕ) where
-  pub boot-done : bootNumber L form (length image) (length out) ≡ 0 → booted L form image out ≡ record { number = 0; records = 1; image = putState L image (freshState form); out = putRecords out 0 bootRecords }
-  unfolding booted
-  boot-done e = decided (bootNumber L form (length image) (length out)) image out _ e
+  abbrev bootGiven : ℕ
+  bootGiven = bootNumber L form (length image) (length out)
 
-  pub boot-kept : (bootNumber L form (length image) (length out) ≡ 0 → ⊥) → booted L form image out ≡ record { number = bootNumber L form (length image) (length out); records = 0; image = image; out = out }
+  pub boot-done : bootGiven ≡ 0 → booted L form image out ≡ bootDone L form image out
   unfolding booted
-  boot-kept n = refused (bootNumber L form (length image) (length out)) image out _ n
+  boot-done e = decided bootGiven image out _ e
+
+  pub boot-refused : (bootGiven ≡ 0 → ⊥) → booted L form image out ≡ refused bootGiven image out
+  unfolding booted
+  boot-refused n = undone bootGiven image out _ n
 
 -- ---- an accepted delivery
 
@@ -174,7 +180,7 @@ module _ (L : Layout) (last : ℕ) (works : Works L) (small : last < 2 ^ 32) (im
       bytes-sound L last next
       (record {
         header = omega (arith, before .header, long);
-        stated = subst (λ (n : ℕ). n ≤ length next) (sym (stated-size L next fixed-kept ∙ ap (imageSize L) lines-next)) (subst (λ (n : ℕ). imageSize L (after .state .node .lines) ≤ n) (sym long) room);
+        stated = subst (λ (n : ℕ). n ≤ length next) (sym (fixed-facts L next fixed-kept .size ∙ ap (imageSize L) lines-next)) (subst (λ (n : ℕ). imageSize L (after .state .node .lines) ≤ n) (sym long) room);
         fixed = fixed-kept;
         node = sound-next;
       })
@@ -276,7 +282,7 @@ module _ (L : Layout) (last : ℕ) (works : Works L) (form image : List ℕ) (ou
       bytes-sound L last (putState L image (freshState form))
       (record {
         header = omega (arith, room-fresh, image-long);
-        stated = subst (λ (n : ℕ). n ≤ length (putState L image (freshState form))) (sym (stated-size L (putState L image (freshState form)) image-fixed ∙ ap (imageSize L) image-lines)) (subst (λ (n : ℕ). imageSize L (freshState form .node .lines) ≤ n) (sym image-long) room-fresh);
+        stated = subst (λ (n : ℕ). n ≤ length (putState L image (freshState form))) (sym (fixed-facts L (putState L image (freshState form)) image-fixed .size ∙ ap (imageSize L) image-lines)) (subst (λ (n : ℕ). imageSize L (freshState form .node .lines) ≤ n) (sym image-long) room-fresh);
         fixed = image-fixed;
         node = subst (SoundNode (L .window) last) (sym image-state) (sound-test (L .window) last (freshState form) fresh);
       })

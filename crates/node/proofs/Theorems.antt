@@ -26,7 +26,7 @@ use Rattle.node.proofs.Images.{state-again}
 use Rattle.node.proofs.Lives.{Reordered, life-order}
 use Rattle.node.proofs.Numbers.{bootChecks, boot-says, boot-told, deliverChecks, deliver-says, deliver-told, readChecks, read-says}
 use Rattle.node.proofs.Sound.{SoundNode}
-use Rattle.node.proofs.SoundImages.{Works, Begins, boot-sound, boot-kept, Follows, delivery-sound, deliver-refused}
+use Rattle.node.proofs.SoundImages.{Works, Begins, boot-sound, boot-refused, Follows, delivery-sound, deliver-refused}
 use Rattle.node.proofs.Stays.{Ordered, Below, sound-facts, rest-after, records-few, ordered-after, records-below}
 
 -- the layout in service: a window of 64 ticks in masks of 8 bytes
@@ -49,7 +49,7 @@ read-numbers = read-says layout lastTick
 pub boot-refusal : (form image out : List ℕ) → (booted layout form image out .number ≡ 0 → ⊥) → booted layout form image out ≡ record { number = booted layout form image out .number; records = 0; image = image; out = out }
 boot-refusal form image out n =
     let same = boot-told layout form image out in
-    boot-kept layout form image out (λ e. n (same ∙ e)) ∙ ap (λ (k : ℕ). record { number = k; records = 0; image = image; out = out }) (sym same)
+    boot-refused layout form image out (λ e. n (same ∙ e)) ∙ ap (λ (k : ℕ). record { number = k; records = 0; image = image; out = out }) (sym same)
 
 pub deliver-refusal : (image : List ℕ) (port : ℕ) (frame out : List ℕ) → (deliverOutcome layout lastTick image port frame out .number ≡ 0 → ⊥) → deliverOutcome layout lastTick image port frame out ≡ record { number = deliverOutcome layout lastTick image port frame out .number; records = 0; image = image; out = out }
 deliver-refusal image port frame out n =

@@ -41,10 +41,14 @@ bootNumber L form imageLength outLength =
 unfoldable pub freshState : List ℕ → State
 freshState form = record { node = freshNode (linesOf form) (faultsOf form) (ownOf form); rows = freshRows (serialsOf form) }
 
+-- what it does then
+abbrev pub bootDone : Layout → List ℕ → List ℕ → List ℕ → Outcome
+bootDone L form image out =
+    record { number = 0; records = length bootRecords; image = putState L image (freshState form); out = putRecords out 0 bootRecords }
+
 unfoldable pub booted : Layout → List ℕ → List ℕ → List ℕ → Outcome
 booted L form image out =
-    outcome (bootNumber L form (length image) (length out)) image out
-    (record { number = 0; records = 1; image = putState L image (freshState form); out = putRecords out 0 bootRecords })
+    outcome (bootNumber L form (length image) (length out)) image out (bootDone L form image out)
 
 -- ---- deliver: 7, 8, 9, then 10 and 11 of the frame
 
@@ -62,15 +66,15 @@ deliveryOf L last image port frame = delivered (L .window) last (stateOf L image
 unfoldable pub imageAfter : Layout → List ℕ → Delivered → List ℕ
 imageAfter L image d = putClock (putRows (L .masks) image headerSize (d .state .rows)) (d .state .node)
 
+-- what it does then
+abbrev pub deliverDone : Layout → ℕ → List ℕ → ℕ → List ℕ → List ℕ → Outcome
+deliverDone L last image port frame out =
+    let d = deliveryOf L last image port frame in
+    record { number = 0; records = length (d .records); image = imageAfter L image d; out = putRecords out 0 (d .records) }
+
 unfoldable pub deliverOutcome : Layout → ℕ → List ℕ → ℕ → List ℕ → List ℕ → Outcome
 deliverOutcome L last image port frame out =
-    outcome (deliverNumber L last image port frame (length out)) image out
-    (record {
-      number = 0;
-      records = length (deliveryOf L last image port frame .records);
-      image = imageAfter L image (deliveryOf L last image port frame);
-      out = putRecords out 0 (deliveryOf L last image port frame .records);
-    })
+    outcome (deliverNumber L last image port frame (length out)) image out (deliverDone L last image port frame out)
 
 -- ---- read: 8, then 12 where the node is passive; the clock of an active node is k
 

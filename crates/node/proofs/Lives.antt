@@ -20,6 +20,7 @@ use Rattle.forms.proofs.Order.{count-order, form-number-order}
 use Rattle.evidence.specs.Rows.{Row, rowSize, rowsAt}
 use Rattle.evidence.proofs.Encoded.{bytes-putRows}
 use Rattle.evidence.proofs.Layouts.{serials-of-rows}
+use Rattle.node.specs.After.{Begins, Follows}
 use Rattle.node.specs.Calls.{Outcome, Reading, bootNumber, freshState, booted, deliverNumber, deliveryOf, imageAfter, deliverOutcome, readNumber, reading}
 use Rattle.rules.specs.Delivery.{State, Delivered, delivered}
 use Rattle.rules.specs.Describe.{room, freshNode, freshRows}
@@ -29,7 +30,7 @@ use Rattle.node.specs.Runs.{Call, Deliver, Read, under, Seen, seenBy, se
 use Rattle.rules.specs.declared.node.Node.{Node}
 use Rattle.node.proofs.Images.{bytes-putClock, bytes-putState}
 use Rattle.node.proofs.Orderly.{delivery-order, under-order}
-use Rattle.node.proofs.SoundImages.{Works, Follows, delivery-sound, deliver-done, deliver-refused, Begins, boot-sound, boot-done, boot-refused}
+use Rattle.node.proofs.SoundImages.{Works, delivery-sound, deliver-done, deliver-refused, boot-sound, boot-done, boot-refused}
 
 -- ---- two images that a truck cannot tell apart
 

@@ -8,7 +8,7 @@ use Prim.Native.Nat.{ℕ, zero, suc, _+_, _-_, _*_, _^_, _≤_, _<_}
 use native.Mathlib.Omega.{arith}
 use borrow.Author.Tests.{eq-eqb, ne-eqb, ltb-false, lt-ltb}
 use lib.ListN.{length, getD}
-use lib.Dec.{ltb, eqb, lit<}
+use lib.Dec.{ltb, eqb, lit<, lit≤}
 use Rattle.fields.specs.Field.{field, words, Bytes}
 use native.Mathlib.Nat.{one-le-pow}
 use Rattle.forms.specs.Form.{misplaced, linesOf, faultsOf, ownOf, serialsOf, formNumber}
@@ -20,16 +20,17 @@ use Rattle.sets.specs.Ticks.{empty}
 use Rattle.evidence.specs.Rows.{Row, rowSize, rowsAt, credit, putRows}
 use Rattle.evidence.proofs.Layouts.{length-rows}
 use Rattle.evidence.proofs.Encoded.{SetFits, RowsFit, rows-fit, credit-fits, length-credit}
+use Rattle.node.specs.After.{Begins, Follows}
 use Rattle.node.specs.Calls.{Outcome, refused, outcome, bootNumber, freshState, bootDone, booted, deliverNumber, deliveryOf, imageAfter, deliverDone, deliverOutcome}
 use Rattle.rules.specs.Delivery.{State, Delivered, delivered}
 use Rattle.rules.specs.Describe.{freshNode, freshRows, bootRecords}
-use Rattle.node.specs.Image.{Layout, imageSize, nodeOf, stateOf, fixedHeader, soundImage, putClock, putState}
+use Rattle.node.specs.Image.{Layout, layout, imageSize, nodeOf, stateOf, fixedHeader, soundImage, putClock, putState}
 use Rattle.rules.specs.Record.{putRecords}
 use Rattle.rules.specs.declared.node.Node.{Node}
 use Rattle.node.proofs.Fresh.{fresh-serials, fresh-length, fresh-sound}
 use Rattle.node.proofs.Images.{fixed-facts, Fine, NodeFits, state-after, fixed-after, length-after, node-after, state-read-back, fixed-of-state, length-putState}
 use Rattle.node.proofs.Sound.{SoundNode, SoundBytes, sound-bytes, bytes-sound, rows-inside}
-use Rattle.node.proofs.Stays.{Sound, Ordered, sound-facts, sound-test, sound-after, ordered-after}
+use Rattle.node.proofs.Stays.{Sound, Ordered, Below, sound-facts, sound-test, sound-after, ordered-after, rest-after, records-few, records-below}
 use Rattle.node.proofs.Taken.{Taken, deliver-taken, WholeFrame, frame-whole}
 
 -- a layout that works: its numbers fit, and its window fits a mask of its bytes
@@ -39,6 +40,10 @@ pub record Works (L : Layout) : Type 0 where
   pub masks : 256 ^ L .masks ≡ 2 ^ bits
   pub wide : 0 < L .window
   pub narrow : L .window ≤ bits
+
+-- the layout in service: a window of 64 ticks in masks of 8 bytes
+pub in-service : Works layout
+in-service = record { fine = record { mark = lit< tt; size = λ n p. omega arith }; bits = 64; masks = refl; wide = lit< tt; narrow = lit≤ tt }
 
 -- ---- what a number decides
 
@@ -185,20 +190,50 @@ module _ (L : Layout) (last : ℕ) (works : Works L) (small : last < 2 ^ 32) (im
         node = sound-next;
       })
 
--- an accepted delivery leaves a sound image, of the length it had, which holds the node that follows
-pub record Follows (L : Layout) (last : ℕ) (image : List ℕ) (d : Delivered) (next : List ℕ) : Type 0 where
-  pub sound : soundImage L last next ≡ true
-  pub state : stateOf L next ≡ d .state
-  pub size : length next ≡ length image
+module _
+    (L : Layout) (last : ℕ) (works : Works L) (small : last < 2 ^ 32) (image : List ℕ) (port : ℕ) (frame : List ℕ) (outLength : ℕ)
+    (bytes : Bytes image) (ok : deliverNumber L last image port frame outLength ≡ 0) where
+  abbrev d : Delivered
+  d = deliveryOf L last image port frame
 
-pub delivery-sound : (L : Layout) (last : ℕ) → Works L → last < 2 ^ 32 → (image : List ℕ) (port : ℕ) (frame : List ℕ) (outLength : ℕ) → Bytes image → deliverNumber L last image port frame outLength ≡ 0 → Follows L last image (deliveryOf L last image port frame) (imageAfter L image (deliveryOf L last image port frame))
-unfolding imageAfter deliveryOf next after start kind tick
-delivery-sound L last works small image port frame outLength bytes ok =
-    record {
-      sound = next-sound L last works small image port frame outLength bytes ok;
-      state = state-delivered L last works small image port frame outLength bytes ok;
-      size = long L last works small image port frame outLength bytes ok;
-    }
+  -- an accepted delivery leaves a sound image, of the length it had, which holds the node that follows
+  pub delivery-sound : Follows L last image d (imageAfter L image d)
+  unfolding imageAfter deliveryOf next after start kind tick
+  delivery-sound =
+      record {
+        sound = next-sound L last works small image port frame outLength bytes ok;
+        state = state-delivered L last works small image port frame outLength bytes ok;
+        size = long L last works small image port frame outLength bytes ok;
+      }
+
+  -- its clock stays in order
+  pub delivery-ordered : Ordered last (stateOf L image .node) (d .state .node)
+  unfolding deliveryOf after start kind tick
+  delivery-ordered = ordered L last works small image port frame outLength bytes ok
+
+  -- it comes to rest soon
+  pub delivery-firings : d .firings ≤ 13
+  unfolding deliveryOf delivered start
+  delivery-firings = rest-after (L .window) last (stateOf L image) port (getD frame 0 0) (field 4 frame 4) (works .wide) counted facts .1
+    where
+      counted : stateOf L image .node .lines ≡ length (stateOf L image .rows)
+      counted = count L last works small image port frame outLength bytes ok
+
+      facts : Sound (L .window) last (stateOf L image)
+      facts = sound L last works small image port frame outLength bytes ok
+
+  pub delivery-records : length (d .records) ≤ 14
+  unfolding deliveryOf start
+  delivery-records =
+      records-few (L .window) last (stateOf L image) port (getD frame 0 0) (field 4 frame 4) (works .wide)
+      (count L last works small image port frame outLength bytes ok) (sound L last works small image port frame outLength bytes ok)
+
+  -- and says no tick above its clock
+  pub delivery-below : Below (d .state .node .tick) (d .records)
+  unfolding deliveryOf start tick
+  delivery-below =
+      records-below (L .window) last (stateOf L image) port (getD frame 0 0) (field 4 frame 4) (works .wide)
+      (sound L last works small image port frame outLength bytes ok) (late L last works small image port frame outLength bytes ok)
 
 -- ---- boot
 
@@ -288,11 +323,6 @@ module _ (L : Layout) (last : ℕ) (works : Works L) (form image : List ℕ) (ou
       })
 
 -- an accepted boot leaves a sound image, of the length it had, which holds the fresh node
-pub record Begins (L : Layout) (last : ℕ) (image form next : List ℕ) : Type 0 where
-  pub sound : soundImage L last next ≡ true
-  pub state : stateOf L next ≡ freshState form
-  pub size : length next ≡ length image
-
 pub boot-sound : (L : Layout) (last : ℕ) → Works L → (form image : List ℕ) (outLength : ℕ) → Bytes form → bootNumber L form (length image) outLength ≡ 0 → Begins L last image form (putState L image (freshState form))
 boot-sound L last works form image outLength bytes ok =
     record {

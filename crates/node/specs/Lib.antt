@@ -1,4 +1,6 @@
+pub mod After
 pub mod Calls
 pub mod Faces
 pub mod Image
 pub mod Runs
+pub mod Table

@@ -1,0 +1,284 @@
+-- The theorem on evidence (01, "Evidence") over a node's calls: what is held under a serial is what was held at the start, and every
+-- frame accepted from it since, heard one after the other. So order and repetition of the frames decide nothing for a node either.
+-- Any calls from any senders, refused ones among them, on any image. Over the layout and the last tick.
+-- Assumes nothing.
+use mathlib.Core.Path.{_≡_, refl, sym, ap, _∙_}
+use mathlib.Core.Logic.{_⊎_, inl, inr}
+use mathlib.Core.Bool.{Bool, true, false, cond, false≢true}
+use mathlib.Core.List.{List, [], _∷_, _++_, map, List·Memᴰ, List·Memᴰ·not-nil}
+use mathlib.Core.List.List·Memᴰ.{List·Memᴰ·head}
+use Prim.Native.Nat.{ℕ, _+_, _^_, _<_}
+use native.Mathlib.Decide.{ℕ-discrete}
+use native.Mathlib.Omega.{arith}
+use borrow.Author.Tests.{eq-eqb, ne-eqb, eqb-true}
+use lib.ListN.{length, getD}
+use lib.Dec.{eqb}
+use Rattle.fields.specs.Field.{field, Bytes}
+use Rattle.fields.specs.Kind.{INIT, ECHO}
+use Rattle.forms.specs.Roster.{count}
+use Rattle.sets.specs.History.{Sent, hear, heard}
+use Rattle.sets.specs.Ticks.{Held, empty, add}
+use Rattle.sets.proofs.Histories.{heard-same}
+use Rattle.sets.proofs.Members.{Proper, proper-facts, proper-empty}
+use Rattle.evidence.specs.Rows.{Row, setOf, creditRow, creditOf, credit}
+use Rattle.evidence.proofs.Encoded.{bytes-putRows}
+use Rattle.evidence.proofs.Growth.{AllKept}
+use Rattle.evidence.proofs.Layouts.{serials-of-rows}
+use Rattle.rules.specs.Delivery.{State, delivered}
+use Rattle.node.specs.Calls.{Outcome, deliverNumber, deliveryOf, imageAfter, deliverOutcome}
+use Rattle.node.specs.Heard.{imageLeft, heldUnder, sentBy, acceptedBy, accepted}
+use Rattle.node.specs.Image.{Layout, rowsOf, stateOf, soundImage}
+use Rattle.node.specs.Runs.{Call, Deliver, Read, called}
+use Rattle.node.proofs.Images.{bytes-putClock}
+use Rattle.node.proofs.Sound.{sound-bytes}
+use Rattle.node.proofs.SoundImages.{Works, delivery-sound, deliver-done, deliver-refused}
+use Rattle.node.proofs.Stays.{sound-facts}
+use Rattle.node.proofs.Taken.{Taken, deliver-taken, WholeFrame, frame-whole}
+
+-- a kind that frames have
+abbrev Known : ℕ → Type 0
+Known kind = (kind ≡ INIT) ⊎ (kind ≡ ECHO)
+
+-- a history behind a history
+heard-append : (w kind : ℕ) (s : Held) (frames others : List Sent) →
+    heard w kind s (frames ++ others) ≡ heard w kind (heard w kind s frames) others
+unfolding heard
+heard-append w kind s [] others = refl
+heard-append w kind s (frame ∷ frames) others = heard-append w kind (hear w kind s frame) frames others
+
+-- ---- a credited frame is heard under its serial, and under no other
+
+row-keeps : (w kind j : ℕ) (row : Row) → creditRow w kind j row .serial ≡ row .serial
+unfolding creditRow
+row-keeps w kind j row = go (eqb kind ECHO)
+  where
+    go : (t : Bool) →
+        cond {A = Row} t (record { serial = row .serial; echo = add w kind (row .echo) j; init = row .init })
+        (record { serial = row .serial; echo = row .echo; init = add w kind (row .init) j }) .serial
+        ≡ row .serial
+    go true = refl
+    go false = refl
+
+row-hears : (w kind j asked : ℕ) (row : Row) →
+    Known kind →
+    Known asked →
+    setOf asked (creditRow w kind j row) ≡ hear w asked (setOf asked row) (record { kind = kind; tick = j })
+unfolding setOf creditRow hear
+row-hears w kind j asked row (inl p) (inl q) = rw (p, q)
+row-hears w kind j asked row (inl p) (inr q) = rw (p, q)
+row-hears w kind j asked row (inr p) (inl q) = rw (p, q)
+row-hears w kind j asked row (inr p) (inr q) = rw (p, q)
+
+module _ (w kind j asked : ℕ) (known : Known kind) (wanted : Known asked) where
+  under-own : (serial : ℕ) (rows : List Row) →
+      (count serial (map (λ (row : Row). row .serial) rows) ≡ 0 → ⊥) →
+      heldUnder (credit w serial kind j rows) serial asked
+      ≡ hear w asked (heldUnder rows serial asked) (record { kind = kind; tick = j })
+  unfolding heldUnder credit creditOf count
+  under-own serial [] listed = absurd (listed refl)
+  under-own serial (row ∷ rows) listed = go (eqb (row .serial) serial) refl (under-own serial rows) listed
+    where
+      go : (t : Bool) →
+          eqb (row .serial) serial ≡ t →
+          ((count serial (map (λ (row : Row). row .serial) rows) ≡ 0 → ⊥) →
+          heldUnder (credit w serial kind j rows) serial asked
+          ≡ hear w asked (heldUnder rows serial asked) (record { kind = kind; tick = j })) →
+          (cond t 1 0 + count serial (map (λ (row : Row). row .serial) rows) ≡ 0 → ⊥) →
+          cond (eqb (cond t (creditRow w kind j row) row .serial) serial) (setOf asked (cond t (creditRow w kind j row) row))
+          (heldUnder (credit w serial kind j rows) serial asked)
+          ≡ hear w asked (cond t (setOf asked row) (heldUnder rows serial asked)) (record { kind = kind; tick = j })
+      go true e ih n = rw (ap (λ (x : ℕ). eqb x serial) (row-keeps w kind j row) ∙ e) (row-hears w kind j asked row known wanted)
+      go false e ih n = rw e (ih (λ z. n (omega arith)))
+
+  under-other : (port serial : ℕ) (rows : List Row) →
+      (port ≡ serial → ⊥) →
+      heldUnder (credit w port kind j rows) serial asked ≡ heldUnder rows serial asked
+  unfolding heldUnder credit creditOf
+  under-other port serial [] apart = refl
+  under-other port serial (row ∷ rows) apart = go (eqb (row .serial) port) refl (under-other port serial rows apart)
+    where
+      go : (t : Bool) →
+          eqb (row .serial) port ≡ t →
+          heldUnder (credit w port kind j rows) serial asked ≡ heldUnder rows serial asked →
+          cond (eqb (cond t (creditRow w kind j row) row .serial) serial) (setOf asked (cond t (creditRow w kind j row) row))
+          (heldUnder (credit w port kind j rows) serial asked)
+          ≡ cond (eqb (row .serial) serial) (setOf asked row) (heldUnder rows serial asked)
+      go true e ih =
+          rw (row-keeps w kind j row, ne-eqb (row .serial) serial (λ q. apart (sym (eqb-true (row .serial) port e) ∙ q))) ih
+      go false e ih = ap (cond (eqb (row .serial) serial) (setOf asked row)) ih
+
+-- ---- one call
+
+-- a call that changes no byte, and in which no frame is accepted from the serial
+record Nothing (L : Layout) (last : ℕ) (image : List ℕ) (serial : ℕ) (call : Call) : Type 0 where
+  stays : called L last image call .image ≡ image
+  none : acceptedBy L last image serial call ≡ []
+
+refused-nothing : (L : Layout) (last : ℕ) (image : List ℕ) (serial port : ℕ) (frame out : List ℕ) →
+    (deliverNumber L last image port frame (length out) ≡ 0 → ⊥) →
+    Nothing L last image serial (Deliver port frame out)
+unfolding called acceptedBy
+refused-nothing L last image serial port frame out n =
+    let refused = deliver-refused L last image port frame out n in
+    record {
+      stays = ap (λ (o : Outcome). o .image) refused;
+      none = rw (refused, ne-eqb (deliverNumber L last image port frame (length out)) 0 n);
+    }
+
+bytes-called : (L : Layout) (last : ℕ) (image : List ℕ) (call : Call) → Bytes image → Bytes (called L last image call .image)
+unfolding called imageAfter
+bytes-called L last image Read h = h
+bytes-called L last image (Deliver port frame out) h = go (ℕ-discrete (deliverNumber L last image port frame (length out)) 0)
+  where
+    go : Dec (deliverNumber L last image port frame (length out) ≡ 0) → Bytes (deliverOutcome L last image port frame out .image)
+    go (yes e) = rw (deliver-done L last image port frame out e) (bytes-putClock _ _ (bytes-putRows (L .masks) image 32 _ h))
+    go (no n) = rw (deliver-refused L last image port frame out n) h
+
+module _ (L : Layout) (last : ℕ) (works : Works L) (small : last < 2 ^ 32) (serial kind : ℕ) (known : Known kind) where
+  -- a frame that is taken is heard under its port's serial
+  delivery-heard : (image : List ℕ) (port : ℕ) (frame out : List ℕ) →
+      Bytes image →
+      deliverNumber L last image port frame (length out) ≡ 0 →
+      heldUnder (rowsOf L (imageAfter L image (deliveryOf L last image port frame))) serial kind
+      ≡ heard (L .window) kind (heldUnder (rowsOf L image) serial kind) (cond (eqb port serial) (sentBy frame ∷ []) [])
+  unfolding deliveryOf delivered stateOf heard
+  delivery-heard image port frame out bytes e =
+      ap (λ (s : State). heldUnder (s .rows) serial kind) (delivery-sound L last works small image port frame (length out) bytes e .state)
+      ∙ go (ℕ-discrete port serial)
+    where
+      taken : Taken L last image port frame (length out)
+      taken = deliver-taken L last image port frame (length out) e
+
+      whole : WholeFrame last frame
+      whole = frame-whole last frame (taken .shape)
+
+      listed : count port (map (λ (row : Row). row .serial) (rowsOf L image)) ≡ 0 → ⊥
+      listed = rw (serials-of-rows (L .masks) (getD image 0 0) image 32) (taken .listed)
+
+      go : Dec (port ≡ serial) →
+          heldUnder (credit (L .window) port (getD frame 0 0) (field 4 frame 4) (rowsOf L image)) serial kind
+          ≡ heard (L .window) kind (heldUnder (rowsOf L image) serial kind) (cond (eqb port serial) (sentBy frame ∷ []) [])
+      go (yes q) =
+          rw (eq-eqb port serial q, ← q)
+          (under-own (L .window) (getD frame 0 0) (field 4 frame 4) kind (whole .kind) known port (rowsOf L image) listed)
+      go (no n) =
+          rw (ne-eqb port serial n)
+          (under-other (L .window) (getD frame 0 0) (field 4 frame 4) kind (whole .kind) known port serial (rowsOf L image) n)
+
+  call-heard : (image : List ℕ) (call : Call) →
+      Bytes image →
+      heldUnder (rowsOf L (called L last image call .image)) serial kind
+      ≡ heard (L .window) kind (heldUnder (rowsOf L image) serial kind) (acceptedBy L last image serial call)
+  unfolding called acceptedBy heard
+  call-heard image Read bytes = refl
+  call-heard image (Deliver port frame out) bytes = go (ℕ-discrete (deliverNumber L last image port frame (length out)) 0)
+    where
+      go : Dec (deliverNumber L last image port frame (length out) ≡ 0) →
+          heldUnder (rowsOf L (called L last image (Deliver port frame out) .image)) serial kind
+          ≡ heard (L .window) kind (heldUnder (rowsOf L image) serial kind) (acceptedBy L last image serial (Deliver port frame out))
+      go (yes e) = rw (deliver-done L last image port frame out e) (delivery-heard image port frame out bytes e)
+      go (no n) =
+          let nothing = refused-nothing L last image serial port frame out n in
+          rw (nothing .stays, nothing .none)
+
+-- ---- the theorem
+
+-- what is held under a serial after any calls: what was held at the start, and the frames accepted from it since, heard
+pub held-is-heard : (L : Layout) (last : ℕ) →
+    Works L →
+    last < 2 ^ 32 →
+    (image : List ℕ) (calls : List Call) (serial kind : ℕ) →
+    Bytes image →
+    (kind ≡ INIT) ⊎ (kind ≡ ECHO) →
+    heldUnder (rowsOf L (imageLeft L last image calls)) serial kind
+    ≡ heard (L .window) kind (heldUnder (rowsOf L image) serial kind) (accepted L last image serial calls)
+unfolding imageLeft accepted heard
+held-is-heard L last works small image [] serial kind bytes known = refl
+held-is-heard L last works small image (call ∷ calls) serial kind bytes known =
+    held-is-heard L last works small (called L last image call .image) calls serial kind (bytes-called L last image call bytes) known
+    ∙ ap (λ (s : Held). heard (L .window) kind s (accepted L last (called L last image call .image) serial calls))
+    (call-heard L last works small serial kind known image call bytes)
+    ∙ sym (heard-append (L .window) kind (heldUnder (rowsOf L image) serial kind) (acceptedBy L last image serial call) _)
+
+-- ---- order and repetition decide nothing
+
+-- the sets of a sound image are proper
+held-proper : (w last : ℕ) (rows : List Row) (serial kind : ℕ) → AllKept w last rows → Proper w (heldUnder rows serial kind)
+unfolding heldUnder setOf
+held-proper w last [] serial kind h = proper-facts w empty (proper-empty w empty refl)
+held-proper w last (row ∷ rows) serial kind h =
+    go (eqb (row .serial) serial) (eqb kind ECHO) (held-proper w last rows serial kind (h .1))
+  where
+    go : (t e : Bool) →
+        Proper w (heldUnder rows serial kind) →
+        Proper w (cond t (cond e (row .echo) (row .init)) (heldUnder rows serial kind))
+    go true true r = h .0 .0 .good
+    go true false r = h .0 .1 .good
+    go false e r = r
+
+-- an image that is not sound takes no frame
+unsound-nothing : (L : Layout) (last : ℕ) (image : List ℕ) (serial : ℕ) (call : Call) →
+    (soundImage L last image ≡ true → ⊥) →
+    Nothing L last image serial call
+unfolding called acceptedBy
+unsound-nothing L last image serial Read n = record { stays = refl; none = refl }
+unsound-nothing L last image serial (Deliver port frame out) n =
+    refused-nothing L last image serial port frame out (λ e. n (deliver-taken L last image port frame (length out) e .sound))
+
+unsound-none : (L : Layout) (last : ℕ) (image : List ℕ) (serial : ℕ) (calls : List Call) →
+    (soundImage L last image ≡ true → ⊥) →
+    accepted L last image serial calls ≡ []
+unfolding accepted
+unsound-none L last image serial [] n = refl
+unsound-none L last image serial (call ∷ calls) n =
+    let nothing = unsound-nothing L last image serial call n in
+    rw (nothing .none, nothing .stays) (unsound-none L last image serial calls n)
+
+no-members : (frames : List Sent) → ((frame : Sent) → List·Memᴰ frame frames → ⊥) → frames ≡ []
+no-members [] n = refl
+no-members (frame ∷ frames) n = absurd (n frame (List·Memᴰ·head refl))
+
+-- from the same set at the start, with the same frames accepted, in any order and however often, the same set is left
+pub held-alike : (L : Layout) (last : ℕ) →
+    Works L →
+    last < 2 ^ 32 →
+    (image other : List ℕ) (calls others : List Call) (serial kind : ℕ) →
+    Bytes image →
+    Bytes other →
+    (kind ≡ INIT) ⊎ (kind ≡ ECHO) →
+    heldUnder (rowsOf L image) serial kind ≡ heldUnder (rowsOf L other) serial kind →
+    ((frame : Sent) → List·Memᴰ frame (accepted L last image serial calls) → List·Memᴰ frame (accepted L last other serial others)) →
+    ((frame : Sent) → List·Memᴰ frame (accepted L last other serial others) → List·Memᴰ frame (accepted L last image serial calls)) →
+    heldUnder (rowsOf L (imageLeft L last image calls)) serial kind ≡ heldUnder (rowsOf L (imageLeft L last other others)) serial kind
+unfolding heard stateOf
+held-alike L last works small image other calls others serial kind bytes bytes′ known start there back =
+    held-is-heard L last works small image calls serial kind bytes known ∙ go (soundImage L last image) refl
+    ∙ ap (λ (s : Held). heard (L .window) kind s (accepted L last other serial others)) start
+    ∙ sym (held-is-heard L last works small other others serial kind bytes′ known)
+  where
+    proper : soundImage L last image ≡ true → Proper (L .window) (heldUnder (rowsOf L image) serial kind)
+    proper e =
+        held-proper (L .window) last (rowsOf L image) serial kind
+        (sound-facts (L .window) last (stateOf L image) (sound-bytes L last image e .node) .sets)
+
+    go : (t : Bool) →
+        soundImage L last image ≡ t →
+        heard (L .window) kind (heldUnder (rowsOf L image) serial kind) (accepted L last image serial calls)
+        ≡ heard (L .window) kind (heldUnder (rowsOf L image) serial kind) (accepted L last other serial others)
+    go true e = heard-same (L .window) kind _ _ _ (works .wide) (proper e) there back
+    go false e =
+        let none = unsound-none L last image serial calls (λ f. false≢true (sym e ∙ f)) in
+        rw (none, no-members (accepted L last other serial others) (λ f m. List·Memᴰ·not-nil (rw none at (back f m))))
+
+-- two runs of calls on one image in which the same frames were accepted from a serial leave the same set under it
+pub held-same : (L : Layout) (last : ℕ) →
+    Works L →
+    last < 2 ^ 32 →
+    (image : List ℕ) (calls others : List Call) (serial kind : ℕ) →
+    Bytes image →
+    (kind ≡ INIT) ⊎ (kind ≡ ECHO) →
+    ((frame : Sent) → List·Memᴰ frame (accepted L last image serial calls) → List·Memᴰ frame (accepted L last image serial others)) →
+    ((frame : Sent) → List·Memᴰ frame (accepted L last image serial others) → List·Memᴰ frame (accepted L last image serial calls)) →
+    heldUnder (rowsOf L (imageLeft L last image calls)) serial kind ≡ heldUnder (rowsOf L (imageLeft L last image others)) serial kind
+held-same L last works small image calls others serial kind bytes known there back =
+    held-alike L last works small image image calls others serial kind bytes bytes known refl there back

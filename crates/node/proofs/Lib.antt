@@ -2,6 +2,7 @@
 pub mod Fresh
 pub mod Heard
 pub mod Images
+pub mod Kept
 pub mod Lives
 pub mod Numbers
 pub mod Orderly

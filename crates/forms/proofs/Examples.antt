@@ -2,11 +2,11 @@
 -- Assumes nothing.
 use mathlib.Core.Path.{_≡_, refl}
 use Prim.Native.Nat.{ℕ}
-use mathlib.Core.List.{List, [], _∷_}
+use mathlib.Core.List.{List, [], _∷_, List·Permᴰ·swap}
 use lib.ListN.{replicate}
 use Rattle.fields.specs.Field.{field, putField, words, putWords}
 use Rattle.forms.specs.Roster.{count, twins, rosterNumber}
-use Rattle.forms.specs.Form.{formNumber, formTold, putForm, formWritten}
+use Rattle.forms.specs.Form.{Reordered, formNumber, formTold, putForm, formWritten}
 use Rattle.forms.specs.Frame.{frameNumber, frameTold, putFrame, frameWritten}
 
 -- the form of 01's whole case
@@ -16,6 +16,14 @@ form = 4 ∷ 1 ∷ 0 ∷ 8 ∷ 0 ∷ 0 ∷ 0 ∷ 11 ∷ 0 ∷ 0 ∷ 0 ∷ 11 ∷
 taken : formTold form ≡ record { number = 0; lines = 4; faults = 1; own = 11 }
 unfolding form formTold formNumber field words rosterNumber count twins
 taken = refl
+
+-- its first two lines exchanged
+exchanged : List ℕ
+exchanged = 4 ∷ 1 ∷ 0 ∷ 8 ∷ 0 ∷ 0 ∷ 0 ∷ 11 ∷ 0 ∷ 0 ∷ 0 ∷ 22 ∷ 0 ∷ 0 ∷ 0 ∷ 11 ∷ 0 ∷ 0 ∷ 0 ∷ 33 ∷ 0 ∷ 0 ∷ 0 ∷ 44 ∷ []
+
+reordered : Reordered form exchanged
+unfolding form exchanged field words
+reordered = record { size = refl; front = refl; lines = List·Permᴰ·swap refl refl }
 
 written : formWritten 1 11 (11 ∷ 22 ∷ 33 ∷ 44 ∷ []) (replicate 24 9) ≡ record { number = 0; written = 24; out = form }
 unfolding form formWritten putForm putField putWords rosterNumber count twins

@@ -1,21 +1,22 @@
 -- The order of lines decides nothing: a roster and a form whose lines are reordered get the same number and the same fields.
 -- So a zero serial and a twin are never taken in line order.
 -- Assumes nothing.
-use mathlib.Core.Path.{_≡_, refl, sym, ap, ap₂, _∙_}
-use Prim.Native.Nat.{ℕ, _+_, _<_, _≤_}
+use mathlib.Core.Path.{_≡_, refl, sym, ap, ap₂, _∙_, subst₂}
+use Prim.Native.Nat.{ℕ, _+_, _*_, _<_, _≤_}
 use native.Mathlib.Decide.{ℕ-discrete}
 use native.Mathlib.Omega.{arith}
-use mathlib.Core.Bool.{Bool, cond}
+use mathlib.Core.Bool.{Bool, true, false, cond}
 use mathlib.Core.List.{List, List·Permᴰ, List·Permᴰ·nil, List·Permᴰ·cons, List·Permᴰ·swap, List·Permᴰ·trans}
 use lib.ListN.{length, getD, take}
 use lib.Seq.{getD-take}
 use lib.Dec.{eqb}
 use borrow.Author.Tests.{eq-eqb, ne-eqb}
-use Rattle.fields.specs.Field.{field}
+use Rattle.fields.specs.Field.{field, words}
 use Rattle.forms.specs.Roster.{count, twins, rosterNumber}
-use Rattle.forms.specs.Form.{formNumber, formTold, formWritten, faultsOf, ownOf, serialsOf}
+use Rattle.forms.specs.Form.{linesOf, faultsOf, ownOf, serialsOf, linesIn, Reordered, misplaced, formNumber, formTold, formWritten}
 use Rattle.fields.proofs.Fields.{field-same}
 use Rattle.forms.proofs.Meaning.{write-number}
+use Rattle.forms.proofs.Told.{placed-length, taken-parts}
 
 -- ---- a roster, and the same lines in another order
 
@@ -60,21 +61,44 @@ write-order f own out p = simp write-number (cc (roster-order f own p, length-or
 
 -- ---- a form
 
--- forms of one length whose first 8 bytes are the same, and whose serials are the same in another order
-module _ (b c : List ℕ) (size : length b ≡ length c) (front : take 8 b ≡ take 8 c) (lines : List·Permᴰ (serialsOf b) (serialsOf c)) where
-  byte-same : (i : ℕ) → i < 8 → getD b i 0 ≡ getD c i 0
-  byte-same i h = sym (getD-take 8 b i 0 h) ∙ ap (λ (l : List ℕ). getD l i 0) front ∙ getD-take 8 c i 0 h
+-- a form of right length holds n lines
+lines-serials : (b : List ℕ) → length b ≡ 8 + 4 * linesOf b → linesIn b ≡ serialsOf b
+lines-serials b e = ap (λ (n : ℕ). words n 4 b 8) (omega arith)
 
-  front-same : (w i : ℕ) → i + w ≤ 8 → field w b i ≡ field w c i
+-- two forms that differ in the order of their lines only
+module _ {b c : List ℕ} (r : Reordered b c) where
+  -- the bytes in front of the lines are the same
+  pub byte-same : (i : ℕ) → i < 8 → getD b i 0 ≡ getD c i 0
+  byte-same i h = sym (getD-take 8 b i 0 h) ∙ ap (λ (l : List ℕ). getD l i 0) (r .front) ∙ getD-take 8 c i 0 h
+
+  -- and so are the fields there
+  pub front-same : (w i : ℕ) → i + w ≤ 8 → field w b i ≡ field w c i
   front-same w i h = field-same w b c i i (λ k p. byte-same (i + k) (omega arith))
+
+  -- both have the same layout
+  layout-same : misplaced b ≡ misplaced c
+  layout-same = cc (r .size, byte-same 0 (omega arith), front-same 2 2 (omega arith))
+
+  -- where it is right, they have the same serials in some order
+  laid-order : misplaced b ≡ false → List·Permᴰ (serialsOf b) (serialsOf c)
+  laid-order e =
+      subst₂ (λ (l m : List ℕ). List·Permᴰ l m) (lines-serials b (placed-length b e)) (lines-serials c (placed-length c (sym layout-same ∙ e))) (r .lines)
 
   -- the form gets the same number
   pub form-number-order : formNumber b ≡ formNumber c
   unfolding formNumber
-  form-number-order =
-      cc (size, byte-same 0 (omega arith), byte-same 1 (omega arith), front-same 2 2 (omega arith), front-same 4 4 (omega arith), roster-order (faultsOf b) (ownOf b) lines)
+  form-number-order = go (misplaced b) refl ∙ ap (λ (t : Bool). cond t 1 (rosterNumber (faultsOf c) (ownOf c) (serialsOf c))) layout-same
+    where
+      go : (t : Bool) → misplaced b ≡ t →
+          cond t 1 (rosterNumber (faultsOf b) (ownOf b) (serialsOf b)) ≡ cond t 1 (rosterNumber (faultsOf c) (ownOf c) (serialsOf c))
+      go true e = refl
+      go false e = cc (byte-same 1 (omega arith), front-same 4 4 (omega arith), roster-order (faultsOf b) (ownOf b) (laid-order e))
 
   -- and the reader tells the same of it
   pub form-order : formTold b ≡ formTold c
   unfolding formTold
   form-order = cc (form-number-order, byte-same 0 (omega arith), byte-same 1 (omega arith), front-same 4 4 (omega arith))
+
+  -- a form that is taken has the same serials in some order
+  pub serials-order : formNumber b ≡ 0 → List·Permᴰ (serialsOf b) (serialsOf c)
+  serials-order e = laid-order (taken-parts b e .0)

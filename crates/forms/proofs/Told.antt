@@ -3,15 +3,16 @@
 -- Assumes nothing.
 use mathlib.Core.Path.{_≡_, refl, sym, ap, _∙_}
 use mathlib.Core.List.{List}
-use mathlib.Core.Bool.{Bool, true, false, not, _||_, true≢false}
+use mathlib.Core.Bool.{Bool, true, false, cond, not, _||_, true≢false}
 use Prim.Native.Nat.{ℕ, _+_, _*_}
 use native.Mathlib.Omega.{arith}
 use lib.ListN.{length}
 use lib.Dec.{ltb, eqb}
 use borrow.Author.Tests.{eqb-true, not-false}
 use Rattle.fields.specs.Field.{field}
-use Rattle.forms.specs.Form.{FormTold, misplaced, formNumber, formTold, refusedForm, linesOf, faultsOf, ownOf}
+use Rattle.forms.specs.Form.{FormTold, misplaced, formNumber, formTold, refusedForm, linesOf, faultsOf, ownOf, serialsOf}
 use Rattle.forms.specs.Number.{numberOf}
+use Rattle.forms.specs.Roster.{rosterNumber}
 use Rattle.forms.specs.declared.answer.Refusal.{Refusal}
 use Rattle.forms.specs.declared.answer.Refusal.the-variants.{Layout, Limits, Zero, Twice, Stranger, Room, Shape, Late}
 
@@ -60,13 +61,28 @@ module _ (b : List ℕ) where
       let z : formNumber b ≡ 0 = sym told-number ∙ ap (λ (t : FormTold). t .number) (sym e) in
       (z, ap (λ (t : FormTold). t .lines) (e ∙ form-taken z))
 
-  -- a form that is taken is as long as its first byte says
-  pub form-length : formNumber b ≡ 0 → length b ≡ 8 + 4 * linesOf b
+  -- ---- the parts of a form that is taken
+
+  -- its layout is right, and so is its roster
+  pub taken-parts : formNumber b ≡ 0 → (misplaced b ≡ false) × (rosterNumber (faultsOf b) (ownOf b) (serialsOf b) ≡ 0)
   unfolding formNumber
-  form-length e = go (misplaced b) refl
+  taken-parts e = go (misplaced b) e
     where
-      go : (t : Bool) → misplaced b ≡ t → length b ≡ 8 + 4 * linesOf b
-      go true m = absurd (omega (arith, rw m at e))
-      go false m =
-          eqb-true (length b) (8 + 4 * linesOf b)
-          (not-false (eqb (length b) (8 + 4 * linesOf b)) (or-last (ltb (length b) 8 || not (eqb (field 2 b 2) 8)) (not (eqb (length b) (8 + 4 * linesOf b))) m))
+      go : (t : Bool) → cond t 1 (rosterNumber (faultsOf b) (ownOf b) (serialsOf b)) ≡ 0 →
+          (t ≡ false) × (rosterNumber (faultsOf b) (ownOf b) (serialsOf b) ≡ 0)
+      go true z = absurd (omega arith)
+      go false z = (refl, z)
+
+  -- a form of right layout is as long as its first byte says
+  pub placed-length : misplaced b ≡ false → length b ≡ 8 + 4 * linesOf b
+  placed-length e =
+      eqb-true (length b) (8 + 4 * linesOf b)
+      (not-false _ (or-last (ltb (length b) 8 || not (eqb (field 2 b 2) 8)) (not (eqb (length b) (8 + 4 * linesOf b))) e))
+
+  -- so a form that is taken is, too
+  pub form-length : formNumber b ≡ 0 → length b ≡ 8 + 4 * linesOf b
+  form-length e = placed-length (taken-parts e .0)
+
+  -- and its roster has number 0
+  pub form-roster : formNumber b ≡ 0 → rosterNumber (faultsOf b) (ownOf b) (serialsOf b) ≡ 0
+  form-roster e = taken-parts e .1

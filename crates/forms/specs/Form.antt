@@ -1,9 +1,10 @@
 -- The roster form (01, "Layouts"): byte 0 n, byte 1 f, bytes 2..3 the offset of the serials, always 8, bytes 4..7 the own
 -- serial, then n serials of 4 bytes. What its reader gives and what its writer leaves, for every input.
-use Prim.Native.Nat.{ℕ, _+_, _*_}
-use mathlib.Core.List.{List}
+use mathlib.Core.Path.{_≡_}
+use Prim.Native.Nat.{ℕ, _+_, _-_, _*_, _/_}
+use mathlib.Core.List.{List, List·Permᴰ}
 use mathlib.Core.Bool.{Bool, cond, not, _||_}
-use lib.ListN.{length, getD}
+use lib.ListN.{length, getD, take}
 use lib.Dec.{ltb, eqb}
 use Rattle.fields.specs.Field.{field, putField, words, putWords}
 use Rattle.forms.specs.Number.{numberOf}
@@ -36,6 +37,19 @@ misplaced b = ltb (length b) 8 || not (eqb (field 2 b 2) 8) || not (eqb (length 
 
 unfoldable pub formNumber : List ℕ → ℕ
 formNumber b = cond (misplaced b) 1 (rosterNumber (faultsOf b) (ownOf b) (serialsOf b))
+
+-- ---- the order of lines
+
+-- the lines that the bytes hold, whatever n says: all whole words behind the front. A form of right length has n of them, and then they
+-- are its serials; fewer than 4 bytes at the end are no line
+abbrev pub linesIn : List ℕ → List ℕ
+linesIn b = words ((length b - serialsPlace) / 4) 4 b serialsPlace
+
+-- two forms that differ in the order of their lines only, be their length right or wrong
+pub record Reordered (b c : List ℕ) : Type 0 where
+  pub size : length b ≡ length c
+  pub front : take serialsPlace b ≡ take serialsPlace c
+  pub lines : List·Permᴰ (linesIn b) (linesIn c)
 
 -- ---- the reader
 
@@ -79,7 +93,9 @@ writtenBy (NotWritten why) out = record { number = numberOf why; written = 0; ou
 abbrev pub writeTold : ℕ → ℕ → List ℕ → List ℕ → WriteTold
 writeTold number size before after =
     cond (eqb number 0)
-    (cond (ltb (length before) size) (record { number = 7; written = 0; out = before }) (record { number = 0; written = size; out = after }))
+    (cond (ltb (length before) size)
+    (record { number = 7; written = 0; out = before })
+    (record { number = 0; written = size; out = after }))
     (record { number = number; written = 0; out = before })
 
 -- the form of a roster, written over the front of the output; bytes behind it stay

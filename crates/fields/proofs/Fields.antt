@@ -3,12 +3,13 @@
 -- Assumes nothing.
 use mathlib.Core.Path.{_≡_, refl, sym, ap, ap₂, _∙_, subst}
 use Prim.Native.Nat.{ℕ, zero, suc, _+_, _-_, _*_, _/_, _%_, _^_, _≤_, _<_}
-use native.Mathlib.Nat.{add-zero, add-suc, add-assoc, pow-suc, pow-succ', div-lt-iff-lt-mul, mul-assoc, div-one, div-div-eq-div-mul, one-le-pow}
+use native.Mathlib.Nat.{add-zero, add-suc, add-assoc, mul-assoc, pow-suc, pow-succ', one-le-pow}
+use native.Mathlib.Nat.{div-one, div-div-eq-div-mul, div-lt-iff-lt-mul}
 use native.Mathlib.Decide.{decLe, ℕ-discrete}
 use native.Mathlib.Omega.{arith}
-use mathlib.Core.List.{List, [], _∷_}
-use lib.ListN.{length, getD, set, drop, length-set}
-use lib.Seq.{getD-set-same, getD-set-other, set-getD, set-out, drop-set-lt}
+use mathlib.Core.List.{List, [], _∷_, _++_}
+use lib.ListN.{length, getD, set, take, drop, length-set}
+use lib.Seq.{getD-set-same, getD-set-other, set-getD, set-out, getD-take, take-suc-set, drop-set-lt}
 use lib.Dec.{lit<}
 use lib.Arith.{digits-lt, mod-mul}
 use Rattle.fields.specs.Field.{field, putField, Bytes}
@@ -43,6 +44,10 @@ field-join u (suc w) b i = ap (λ (n : ℕ). field n b i) (add-suc u w) ∙ step
 pub field-byte : (b : List ℕ) (i : ℕ) → field 1 b i ≡ getD b i 0
 unfolding field
 field-byte b i = rw add-zero (omega arith)
+
+-- a field in the front of a list
+pub field-take : (w n : ℕ) (b : List ℕ) (i : ℕ) → i + w ≤ n → field w (take n b) i ≡ field w b i
+field-take w n b i p = field-same w (take n b) b i i (λ k q. getD-take n b (i + k) 0 (omega arith))
 
 -- ---- what a store leaves
 
@@ -99,6 +104,22 @@ put-field (suc w) b i h =
 
     low : (field w b i * 256 + getD b (i + w) 0) % 256 ≡ getD b (i + w) 0
     low = omega (arith, h (i + w))
+
+-- a store right behind bytes that two lists share gives them more such bytes
+pub take-put : (w : ℕ) (b c : List ℕ) (i v : ℕ) → i + w ≤ length b → i + w ≤ length c → take i b ≡ take i c →
+    take (i + w) (putField w b i v) ≡ take (i + w) (putField w c i v)
+unfolding putField
+take-put zero b c i v p q e = rw add-zero e
+take-put (suc w) b c i v p q e =
+    rw add-suc
+    (take-suc-set (putField w b i (v / 256)) (i + w) (v % 256) (omega (arith, length-put w b i (v / 256)))
+    ∙ ap (λ (l : List ℕ). l ++ (v % 256 ∷ [])) (take-put w b c i (v / 256) (omega arith) (omega arith) e)
+    ∙ sym (take-suc-set (putField w c i (v / 256)) (i + w) (v % 256) (omega (arith, length-put w c i (v / 256)))))
+
+-- so does a store of what one of them holds there, and that one is as it was
+pub take-put-field : (w : ℕ) (b c : List ℕ) (i : ℕ) → Bytes c → i + w ≤ length b → i + w ≤ length c → take i b ≡ take i c →
+    take (i + w) (putField w b i (field w c i)) ≡ take (i + w) c
+take-put-field w b c i h p q e = take-put w b c i (field w c i) p q e ∙ ap (take (i + w)) (put-field w c i h)
 
 -- only the low 8 w bits of a number are stored
 pub put-mod : (w : ℕ) (b : List ℕ) (i v : ℕ) → putField w b i (v % 256 ^ w) ≡ putField w b i v

@@ -1,19 +1,18 @@
 -- A run of stores of fields: what was stored reads back, and what lies apart stays. Whether two fields lie apart is computed, so a
 -- header of a dozen fields asks one law and not a hundred cases.
 -- Assumes nothing.
-use mathlib.Core.Path.{_≡_, refl, sym, ap, _∙_, subst}
+use mathlib.Core.Path.{_≡_, refl, sym, ap, _∙_}
 use mathlib.Core.Logic.{_⊎_, inl, inr}
-use mathlib.Core.Bool.{Bool, true, false, _&&_, _||_}
+use mathlib.Core.Bool.{Bool, true, _&&_, _||_}
 use mathlib.Core.List.{List, [], _∷_, _++_}
-use Prim.Native.Nat.{ℕ, zero, suc, _+_, _^_, _≤_, _<_}
-use native.Mathlib.Nat.{add-zero}
+use Prim.Native.Nat.{ℕ, suc, _+_, _^_, _≤_, _<_}
 use native.Mathlib.Omega.{arith}
 use lib.ListN.{length, getD, take, drop}
 use lib.Seq.{split-at}
 use lib.Dec.{T, leb, leb→le}
 use mir.Facts.{and-yes, or-yes}
 use Rattle.fields.specs.Field.{field, putField, Bytes}
-use Rattle.fields.proofs.Fields.{field-byte, field-same, field-put, field-put-other, getD-put-other, length-put, bytes-put}
+use Rattle.fields.proofs.Fields.{field-byte, field-put, field-put-other, getD-put-other, length-put, bytes-put}
 
 -- a value written over a field
 pub record Store : Type 0 where

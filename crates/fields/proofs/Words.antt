@@ -1,13 +1,13 @@
 -- Laws of a column of words, over the stride: what a store of words leaves, and that words stored read back.
 -- Assumes nothing.
-use mathlib.Core.Path.{_≡_, refl, sym, ap, ap₂, _∙_, subst}
-use Prim.Native.Nat.{ℕ, zero, suc, _+_, _-_, _*_, _/_, _%_, _^_, _≤_, _<_}
+use mathlib.Core.Path.{_≡_, refl, sym, ap, ap₂, _∙_}
+use Prim.Native.Nat.{ℕ, zero, suc, _+_, _-_, _*_, _^_, _≤_, _<_}
 use native.Mathlib.Nat.{suc-mul, add-assoc}
 use native.Mathlib.Omega.{arith}
 use mathlib.Core.List.{List, [], _∷_}
-use lib.ListN.{length, getD}
+use lib.ListN.{length, getD, take, drop}
 use Rattle.fields.specs.Field.{field, putField, words, putWords, Bytes}
-use Rattle.fields.proofs.Fields.{field-same, field-lt, field-put, put-field, length-put, bytes-put, getD-put-other}
+use Rattle.fields.proofs.Fields.{field-same, field-lt, field-put, put-field, length-put, getD-put-other, take-put, drop-put}
 
 -- every element is a number of 4 bytes
 abbrev pub Words : List ℕ → Type 0
@@ -24,6 +24,30 @@ words-words zero s b i h k = omega arith
 words-words (suc n) s b i h zero = field-lt 4 b i h
 words-words (suc n) s b i h (suc k) = words-words n s b (i + s) h k
 
+-- a column of which a line is left is that line, and then the column one line shorter
+pub size-step : (n s : ℕ) → 0 < n → n * s ≡ (n - 1) * s + s
+size-step zero s p = omega arith
+size-step (suc n) s p = suc-mul n s ∙ ap (λ (m : ℕ). m * s + s) (omega arith)
+
+pub words-step : (n s : ℕ) (b : List ℕ) (i : ℕ) → 0 < n → words n s b i ≡ field 4 b i ∷ words (n - 1) s b (i + s)
+unfolding words
+words-step zero s b i p = absurd (omega arith)
+words-step (suc n) s b i p = let e : n ≡ suc n - 1 = omega arith in ap (λ (m : ℕ). field 4 b i ∷ words m s b (i + s)) e
+
+pub words-end : (n s : ℕ) (b : List ℕ) (i : ℕ) → n ≤ 0 → words n s b i ≡ []
+unfolding words
+words-end zero s b i p = refl
+words-end (suc n) s b i p = absurd (omega arith)
+
+-- the word on line k
+pub getD-words : (n s : ℕ) (b : List ℕ) (i k : ℕ) → k < n → getD (words n s b i) k 0 ≡ field 4 b (i + k * s)
+unfolding words
+getD-words zero s b i k p = absurd (omega arith)
+getD-words (suc n) s b i zero p = let e : i ≡ i + 0 * s = omega arith in ap (field 4 b) e
+getD-words (suc n) s b i (suc k) p =
+    let e : i + s + k * s ≡ i + suc k * s = omega (arith, suc-mul k s) in
+    getD-words n s b (i + s) k (omega arith) ∙ ap (field 4 b) e
+
 -- columns whose bytes are the same are the same
 pub words-same : (n s : ℕ) (b c : List ℕ) (i j : ℕ) → 4 ≤ s → ((k : ℕ) → k < n * s → getD b (i + k) 0 ≡ getD c (j + k) 0) → words n s b i ≡ words n s c j
 unfolding words
@@ -39,25 +63,30 @@ unfolding putWords
 length-putWords s b i [] = refl
 length-putWords s b i (v ∷ vs) = length-putWords s (putField 4 b i v) (i + s) vs ∙ length-put 4 b i v
 
-pub bytes-putWords : (s : ℕ) (b : List ℕ) (i : ℕ) (vs : List ℕ) → Bytes b → Bytes (putWords s b i vs)
-unfolding putWords
-bytes-putWords s b i [] h = h
-bytes-putWords s b i (v ∷ vs) h = bytes-putWords s (putField 4 b i v) (i + s) vs (bytes-put 4 b i v h)
-
 -- a byte in front of the column
-pub getD-putWords-before : (s : ℕ) (b : List ℕ) (i : ℕ) (vs : List ℕ) (j : ℕ) → j < i → getD (putWords s b i vs) j 0 ≡ getD b j 0
+getD-putWords-before : (s : ℕ) (b : List ℕ) (i : ℕ) (vs : List ℕ) (j : ℕ) → j < i → getD (putWords s b i vs) j 0 ≡ getD b j 0
 unfolding putWords
 getD-putWords-before s b i [] j p = refl
 getD-putWords-before s b i (v ∷ vs) j p =
     getD-putWords-before s (putField 4 b i v) (i + s) vs j (omega arith) ∙ getD-put-other 4 b i v j (λ k q e. omega arith)
 
--- a byte behind the column
-pub getD-putWords-after : (s : ℕ) (b : List ℕ) (i : ℕ) (vs : List ℕ) (j : ℕ) → 4 ≤ s → i + length vs * s ≤ j → getD (putWords s b i vs) j 0 ≡ getD b j 0
+-- bytes behind the column stay
+pub drop-putWords : (s : ℕ) (b : List ℕ) (i : ℕ) (vs : List ℕ) (n : ℕ) → 4 ≤ s → i + length vs * s ≤ n →
+    drop n (putWords s b i vs) ≡ drop n b
 unfolding putWords
-getD-putWords-after s b i [] j p q = refl
-getD-putWords-after s b i (v ∷ vs) j p q =
-    getD-putWords-after s (putField 4 b i v) (i + s) vs j p (omega (arith, suc-mul (length vs) s))
-    ∙ getD-put-other 4 b i v j (λ k r e. omega (arith, suc-mul (length vs) s))
+drop-putWords s b i [] n p q = refl
+drop-putWords s b i (v ∷ vs) n p q =
+    drop-putWords s (putField 4 b i v) (i + s) vs n p (omega (arith, suc-mul (length vs) s)) ∙ drop-put 4 b i v n (omega (arith, suc-mul (length vs) s))
+
+-- words one behind the other, stored right behind bytes that two lists share, give them more such bytes
+pub take-putWords : (b c : List ℕ) (i : ℕ) (vs : List ℕ) (n : ℕ) →
+    i + length vs * 4 ≡ n → n ≤ length b → n ≤ length c → take i b ≡ take i c → take n (putWords 4 b i vs) ≡ take n (putWords 4 c i vs)
+unfolding putWords
+take-putWords b c i [] n s p q e = let same : i ≡ n = omega arith in rw same at e
+take-putWords b c i (v ∷ vs) n s p q e =
+    take-putWords (putField 4 b i v) (putField 4 c i v) (i + 4) vs n
+    (omega arith) (omega (arith, length-put 4 b i v)) (omega (arith, length-put 4 c i v))
+    (take-put 4 b c i v (omega arith) (omega arith) e)
 
 pub field-putWords-before : (w s : ℕ) (b : List ℕ) (i : ℕ) (vs : List ℕ) (j : ℕ) → j + w ≤ i → field w (putWords s b i vs) j ≡ field w b j
 field-putWords-before w s b i vs j p = field-same w (putWords s b i vs) b j j (λ k q. getD-putWords-before s b i vs (j + k) (omega arith))

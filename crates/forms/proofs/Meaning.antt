@@ -124,9 +124,11 @@ zeros : (own : ℕ) (serials : List ℕ) → (0 < count 0 (own ∷ serials)) ↔
 zeros own serials =
     (λ p. ⊎-map sym (λ m. m) (List·Memᴰ·cases-cons (found 0 (own ∷ serials) p)), ⊎-elim (λ e. counted (List·Memᴰ·head (sym e))) (λ m. counted (List·Memᴰ·tail m)))
 
-absent : (own : ℕ) (serials : List ℕ) → (count own serials ≡ 0) ↔ Stranger own serials
-absent own serials =
-    (λ e m. omega (arith, counted m), λ n. elim (decLt 0 (count own serials)) [ yes p ↦ absurd (n (found own serials p)) | no q ↦ omega arith ])
+-- a serial's count is 0 exactly where it is not in the list
+pub absent : (x : ℕ) (l : List ℕ) → Decides (eqb (count x l) 0) (List·Memᴰ x l → ⊥)
+absent x l =
+    Iff·trans (equal (count x l) 0)
+    (λ e m. omega (arith, counted m), λ n. elim (decLt 0 (count x l)) [ yes p ↦ absurd (n (found x l p)) | no q ↦ omega arith ])
 
 -- other checks behind come after the last of these
 pub past : (t : Bool) (n rest next : ℕ) → orElse (cond t (suc n) rest) next ≡ cond t (suc n) (orElse rest next)
@@ -143,7 +145,7 @@ roster-then f own serials {next} {checks} says fresh =
     (in-front 2 (either _ _ (either _ _ (less (length serials) 1) (less 32 (length serials))) (less (length serials) (3 * f + 1))) (λ g. fresh .0 (g .1 .1 .1))
     (in-front 3 (Iff·trans (less 0 (count 0 (own ∷ serials))) (zeros own serials)) (λ g. fresh .1 (g .1 .1))
     (in-front 4 (Iff·trans (less 0 (twins serials)) (twice-says serials)) (λ g. fresh .2 (g .1))
-    (in-front 5 (Iff·trans (equal (count own serials) 0) (absent own serials)) (fresh .3)
+    (in-front 5 (absent own serials) (fresh .3)
     says))))
 
 else-zero : (n : ℕ) → orElse n 0 ≡ n
@@ -156,8 +158,8 @@ roster-says f own serials = rw (else-zero (rosterNumber f own serials)) at (rost
 
 -- ---- the readers
 
--- a reader's number, where it answers by a record with number 0 or by a refusal
-told : {A : Type 0} (number : A → ℕ) (taken refused : A) (n : ℕ) →
+-- the number that an answer tells, where it is one with number 0 or a refusal with number n
+pub told : {A : Type 0} (number : A → ℕ) (taken refused : A) (n : ℕ) →
     number taken ≡ 0 → number refused ≡ n → number (cond (eqb n 0) taken refused) ≡ n
 told number taken refused n p q = go (eqb n 0) refl
   where

@@ -1,42 +1,20 @@
--- Laws of a roster, over a column of serials: the walk down the column line by line, and the roster's number case by case.
+-- Laws of a roster, over a column of serials: the counts line by line, the roster's number case by case, and a roster in order.
 -- Assumes nothing.
 use mathlib.Core.Path.{_≡_, refl, ap, _∙_}
 use mathlib.Core.List.{List, [], _∷_}
 use mathlib.Core.Bool.{Bool, true, false, cond, _||_}
 use mathlib.Core.Logic.{_⊎_, inl, inr, ⊎-elim}
-use Prim.Native.Nat.{ℕ, zero, suc, _+_, _-_, _*_, _≤_, _<_}
-use native.Mathlib.Nat.{suc-mul}
+use Prim.Native.Nat.{ℕ, _+_, _-_, _*_, _≤_, _<_}
+use native.Mathlib.Decide.{decLt}
 use native.Mathlib.Omega.{arith}
-use lib.ListN.{length, getD}
+use lib.ListN.{length}
 use lib.Dec.{ltb, eqb}
-use borrow.Author.Tests.{lt-ltb, le-ltb, ltb-false, eq-eqb, ne-eqb}
+use borrow.Author.Tests.{lt-ltb, le-ltb, ltb-false, eqb-true, eq-eqb, ne-eqb}
 use Rattle.fields.specs.Field.{field, words}
 use Rattle.forms.specs.Roster.{count, twins, rosterNumber}
-
--- ---- a column of which a line is left is that line, and then the column one line shorter
-
-pub size-step : (n s : ℕ) → 0 < n → n * s ≡ (n - 1) * s + s
-size-step zero s p = omega arith
-size-step (suc n) s p = suc-mul n s ∙ ap (λ (m : ℕ). m * s + s) (omega arith)
-
-pub words-step : (n s : ℕ) (b : List ℕ) (i : ℕ) → 0 < n → words n s b i ≡ field 4 b i ∷ words (n - 1) s b (i + s)
-unfolding words
-words-step zero s b i p = absurd (omega arith)
-words-step (suc n) s b i p = let e : n ≡ suc n - 1 = omega arith in ap (λ (m : ℕ). field 4 b i ∷ words m s b (i + s)) e
-
-pub words-end : (n s : ℕ) (b : List ℕ) (i : ℕ) → n ≤ 0 → words n s b i ≡ []
-unfolding words
-words-end zero s b i p = refl
-words-end (suc n) s b i p = absurd (omega arith)
-
--- the word on line k
-pub getD-words : (n s : ℕ) (b : List ℕ) (i k : ℕ) → k < n → getD (words n s b i) k 0 ≡ field 4 b (i + k * s)
-unfolding words
-getD-words zero s b i k p = absurd (omega arith)
-getD-words (suc n) s b i zero p = let e : i ≡ i + 0 * s = omega arith in ap (field 4 b) e
-getD-words (suc n) s b i (suc k) p =
-    let e : i + s + k * s ≡ i + suc k * s = omega (arith, suc-mul k s) in
-    getD-words n s b (i + s) k (omega arith) ∙ ap (field 4 b) e
+use Rattle.forms.specs.Table.{Twice}
+use Rattle.fields.proofs.Words.{words-step, words-end}
+use Rattle.forms.proofs.Meaning.{twice-says, roster-says}
 
 -- ---- counts
 
@@ -122,3 +100,22 @@ module _ (f own : ℕ) (serials : List ℕ) where
       pub roster-sound : twins serials ≡ 0 → (count own serials ≡ 0 → ⊥) → rosterNumber f own serials ≡ 0
       unfolding rosterNumber count
       roster-sound t s = rw (within f (length serials) l, ne-eqb own 0 o, z, t, ne-eqb (count own serials) 0 s)
+
+-- ---- a roster in order
+
+-- no serial stands twice
+pub roster-twins : (f own : ℕ) (serials : List ℕ) → rosterNumber f own serials ≡ 0 → twins serials ≡ 0
+roster-twins f own serials z = elim (decLt 0 (twins serials)) [ yes p ↦ absurd (once (twice-says serials .0 p)) | no q ↦ omega arith ]
+  where
+    once : Twice serials → ⊥
+    once = roster-says f own serials .exactly 0 .0 z .1 .1 .0
+
+-- so each counts at most once
+pub count-once : (x : ℕ) (l : List ℕ) → twins l ≡ 0 → count x l ≤ 1
+unfolding count twins
+count-once x [] e = omega arith
+count-once x (y ∷ l) e = go (eqb y x) refl (count-once x l (omega arith))
+  where
+    go : (t : Bool) → eqb y x ≡ t → count x l ≤ 1 → cond t 1 0 + count x l ≤ 1
+    go true q below = omega (arith, ap (λ (z : ℕ). count z l) (eqb-true y x q))
+    go false q below = omega arith

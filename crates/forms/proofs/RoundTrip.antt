@@ -4,53 +4,26 @@
 use mathlib.Core.Path.{_≡_, refl, sym, ap, ap₂, _∙_}
 use mathlib.Core.Logic.{_↔_, _≢_, inl, inr}
 use mathlib.Core.Bool.{Bool, true, false, cond, or-false}
-use mathlib.Core.List.{List, [], _∷_, _++_}
-use Prim.Native.Nat.{ℕ, zero, suc, _+_, _*_, _/_, _%_, _^_, _≤_, _<_}
+use mathlib.Core.List.{List, _++_}
+use Prim.Native.Nat.{ℕ, _+_, _*_, _^_, _≤_, _<_}
 use native.Mathlib.Decide.{decLt, ℕ-discrete}
-use native.Mathlib.Nat.{add-zero, add-suc}
 use native.Mathlib.Omega.{arith}
 use lib.ListN.{length, getD, take, drop, take-append-drop}
-use lib.Seq.{getD-take, length-take-le, take-suc-set, drop-set-lt, take-all}
-use lib.Dec.{ltb, eqb}
+use lib.Seq.{getD-take, length-take-le, take-all}
+use lib.Dec.{ltb, eqb, lit≤}
 use borrow.Author.Tests.{eqb-true, eqb-false, ltb-false, eq-eqb, le-ltb}
-use Rattle.fields.specs.Field.{field, putField, words, putWords, Bytes}
+use Rattle.fields.specs.Field.{field, putField, words, Bytes}
 use Rattle.forms.specs.Roster.{rosterNumber}
-use Rattle.forms.specs.Form.{linesOf, faultsOf, ownOf, serialsOf, formNumber, formTold, serialOn, WriteTold, writeTold, putForm, formWritten}
+use Rattle.forms.specs.Form.{linesOf, faultsOf, ownOf, serialsOf, formNumber, formTold, serialOn}
+use Rattle.forms.specs.Form.{WriteTold, writeTold, putForm, formWritten}
 use Rattle.forms.specs.Frame.{badKind, frameNumber, frameTold, putFrame, frameWritten, frameWriteNumber}
-use Rattle.fields.proofs.Fields.{field-byte, drop-put, field-same, field-put, field-put-other, put-field, length-put}
-use Rattle.fields.proofs.Words.{Words, length-words, words-same, length-putWords, field-putWords-before, words-putWords, putWords-words}
 use Rattle.forms.specs.Table.{Given, formChecks, frameChecks}
-use Rattle.forms.proofs.Meaning.{form-told, frame-told, roster-says, form-says, frame-says, form-writer-says, frame-writer-says}
-
--- ---- laws of stores
-
--- a field in the front of a list
-field-take : (w n : ℕ) (b : List ℕ) (i : ℕ) → i + w ≤ n → field w (take n b) i ≡ field w b i
-field-take w n b i p = field-same w (take n b) b i i (λ k q. getD-take n b (i + k) 0 (omega arith))
-
--- a store right behind bytes that two lists share gives them more such bytes
-take-put : (w : ℕ) (b c : List ℕ) (i v : ℕ) →
-    i + w ≤ length b → i + w ≤ length c → take i b ≡ take i c → take (i + w) (putField w b i v) ≡ take (i + w) (putField w c i v)
-unfolding putField
-take-put zero b c i v p q e = rw add-zero e
-take-put (suc w) b c i v p q e =
-    rw add-suc
-    (take-suc-set (putField w b i (v / 256)) (i + w) (v % 256) (omega (arith, length-put w b i (v / 256)))
-    ∙ ap (λ (l : List ℕ). l ++ (v % 256 ∷ [])) (take-put w b c i (v / 256) (omega arith) (omega arith) e)
-    ∙ sym (take-suc-set (putField w c i (v / 256)) (i + w) (v % 256) (omega (arith, length-put w c i (v / 256)))))
-
-take-words : (vs b c : List ℕ) (i n : ℕ) →
-    i + 4 * length vs ≡ n → n ≤ length b → n ≤ length c → take i b ≡ take i c → take n (putWords 4 b i vs) ≡ take n (putWords 4 c i vs)
-unfolding putWords
-take-words [] b c i n s p q e = let same : i ≡ n = omega arith in rw same at e
-take-words (v ∷ vs) b c i n s p q e =
-    take-words vs (putField 4 b i v) (putField 4 c i v) (i + 4) n (omega arith) (omega (arith, length-put 4 b i v)) (omega (arith, length-put 4 c i v))
-    (take-put 4 b c i v (omega arith) (omega arith) e)
-
-drop-words : (vs b : List ℕ) (i n : ℕ) → i + 4 * length vs ≤ n → drop n (putWords 4 b i vs) ≡ drop n b
-unfolding putWords
-drop-words [] b i n p = refl
-drop-words (v ∷ vs) b i n p = drop-words vs (putField 4 b i v) (i + 4) n (omega arith) ∙ drop-put 4 b i v n (omega arith)
+use Rattle.fields.proofs.Fields.{field-byte, field-take, field-put, field-put-other, put-field, length-put, take-put, drop-put}
+use Rattle.fields.proofs.Words.{Words, length-words, words-same, length-putWords, field-putWords-before, words-putWords, putWords-words}
+use Rattle.fields.proofs.Words.{take-putWords, drop-putWords}
+use Rattle.forms.proofs.Meaning.{form-told, frame-told, form-says, frame-says, frame-writer-says}
+use Rattle.forms.proofs.Rosters.{Limits, roster-limits}
+use Rattle.forms.proofs.Told.{form-length, form-roster}
 
 -- ---- what a writer answers
 
@@ -118,7 +91,7 @@ module _ (out : List ℕ) (f own : ℕ) (serials : List ℕ) where
   drop-form : drop (formSize serials) (putForm out f own serials) ≡ drop (formSize serials) out
   unfolding putForm
   drop-form =
-      drop-words serials _ 8 (formSize serials) (omega arith)
+      drop-putWords 4 _ 8 serials (formSize serials) (lit≤ tt) (omega arith)
       ∙ drop-put 4 _ 4 own (formSize serials) (omega arith)
       ∙ drop-put 2 _ 2 8 (formSize serials) (omega arith)
       ∙ drop-put 1 _ 1 f (formSize serials) (omega arith)
@@ -129,7 +102,7 @@ module _ (out : List ℕ) (f own : ℕ) (serials : List ℕ) where
       take (formSize serials) (putForm out f own serials) ≡ take (formSize serials) (putForm b f own serials)
   unfolding putForm
   take-form b p q =
-      take-words serials _ _ 8 (formSize serials) refl (simp length-put p) (simp length-put q)
+      take-putWords _ _ 8 serials (formSize serials) (omega arith) (simp length-put p) (simp length-put q)
       (take-put 4 _ _ 4 own (simp length-put (omega arith)) (simp length-put (omega arith))
       (take-put 2 _ _ 2 8 (simp length-put (omega arith)) (simp length-put (omega arith))
       (take-put 1 _ _ 1 f (simp length-put (omega arith)) (simp length-put (omega arith))
@@ -150,12 +123,8 @@ module _ (f own : ℕ) (serials out : List ℕ) (fits : own < 2 ^ 32) (whole : W
   front : formWritten f own serials out .out ≡ putForm out f own serials
   front = ap (λ (t : WriteTold). t .out) (done .2)
 
-  limits : (length serials ≤ 32) × (3 * f + 1 ≤ length serials)
-  limits =
-      let n = roster-says f own serials .exactly 0 .0 (done .0) .0 in
-      let few : 32 < length serials → ⊥ = λ p. n (inl (inr p)) in
-      let enough : length serials < 3 * f + 1 → ⊥ = λ p. n (inr p) in
-      omega arith
+  limits : Limits f (length serials)
+  limits = roster-limits f own serials (done .0)
 
   -- a field in front of the serials
   header : (w i : ℕ) → i + w ≤ 8 →
@@ -253,24 +222,20 @@ pub form-written-again : (b out : List ℕ) → Bytes b → formNumber b ≡ 0 �
     formWritten (faultsOf b) (ownOf b) (serialsOf b) out ≡ record { number = 0; written = length b; out = b ++ drop (length b) out }
 unfolding formWritten
 form-written-again b out h e p =
-    wrote-bytes (rosterNumber (faultsOf b) (ownOf b) (serialsOf b)) (formSize (serialsOf b)) out (putForm out (faultsOf b) (ownOf b) (serialsOf b)) b ok (omega (arith, size, lines))
-    (take-form out (faultsOf b) (ownOf b) (serialsOf b) b (omega (arith, size, lines)) (omega (arith, size, lines))
-    ∙ ap (λ (l : List ℕ). take (formSize (serialsOf b)) l) (form-self b h (settled _ _ (λ n. g .0 (inl (inr n))))))
+    wrote-bytes (rosterNumber (faultsOf b) (ownOf b) (serialsOf b)) (formSize (serialsOf b)) out
+    (putForm out (faultsOf b) (ownOf b) (serialsOf b)) b ok size
+    (take-form out (faultsOf b) (ownOf b) (serialsOf b) b (omega (arith, size)) (omega (arith, size))
+    ∙ ap (take (formSize (serialsOf b))) (form-self b h (settled _ _ (λ n. g .0 (inl (inr n))))))
     (drop-form out (faultsOf b) (ownOf b) (serialsOf b))
   where
     g : Given (formChecks b) 0
     g = form-says b .exactly 0 .0 (form-told b ∙ e)
 
-    lines : length (serialsOf b) ≡ linesOf b
-    lines = length-words (linesOf b) 4 b 8
-
-    size : length b ≡ 8 + 4 * linesOf b
-    size = settled _ _ (λ n. g .0 (inr n))
+    size : length b ≡ formSize (serialsOf b)
+    size = omega (arith, form-length b e, length-words (linesOf b) 4 b 8)
 
     ok : formWritten (faultsOf b) (ownOf b) (serialsOf b) out .number ≡ 0
-    ok =
-        form-writer-says (faultsOf b) (ownOf b) (serialsOf b) out .exactly 0 .1
-        (rw lines (g .1 .0, (g .1 .1 .0, (g .1 .1 .1 .0, (g .1 .1 .1 .1 .0, (omega (arith, size), refl))))))
+    ok = rw (form-roster b e, le-ltb (length out) (formSize (serialsOf b)) (omega (arith, size)))
 
 -- ---- the frame
 

@@ -15,6 +15,7 @@ use Rattle.forms.specs.Number.{numberOf}
 use Rattle.forms.specs.Roster.{rosterNumber}
 use Rattle.forms.specs.declared.answer.Refusal.{Refusal}
 use Rattle.forms.specs.declared.answer.Refusal.the-variants.{Layout, Limits, Zero, Twice, Stranger, Room, Shape, Late}
+use Rattle.forms.proofs.Meaning.{form-told}
 
 -- no refusal has number 0
 pub refusal : (why : Refusal) → eqb (numberOf why) 0 ≡ false
@@ -45,20 +46,12 @@ module _ (b : List ℕ) where
 
   -- ---- and back: the number that is told is the form's own
 
-  told-number : formTold b .number ≡ formNumber b
-  unfolding formTold
-  told-number = go (eqb (formNumber b) 0) refl
-    where
-      go : (t : Bool) → eqb (formNumber b) 0 ≡ t → formTold b .number ≡ formNumber b
-      go true e = rw e (sym (eqb-true (formNumber b) 0 e))
-      go false e = rw e
-
   pub told-refused : (why : Refusal) → refusedForm (numberOf why) ≡ formTold b → formNumber b ≡ numberOf why
-  told-refused why e = sym told-number ∙ ap (λ (t : FormTold). t .number) (sym e)
+  told-refused why e = sym (form-told b) ∙ ap (λ (t : FormTold). t .number) (sym e)
 
   pub told-taken : (n f own : ℕ) → _≡_ {A = FormTold} (record { number = 0; lines = n; faults = f; own = own }) (formTold b) → (formNumber b ≡ 0) × (n ≡ linesOf b)
   told-taken n f own e =
-      let z : formNumber b ≡ 0 = sym told-number ∙ ap (λ (t : FormTold). t .number) (sym e) in
+      let z : formNumber b ≡ 0 = sym (form-told b) ∙ ap (λ (t : FormTold). t .number) (sym e) in
       (z, ap (λ (t : FormTold). t .lines) (e ∙ form-taken z))
 
   -- ---- the parts of a form that is taken

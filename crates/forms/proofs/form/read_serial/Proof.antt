@@ -8,8 +8,7 @@ use denote.Ref.{now}
 use lib.ListN.{List·getD-eq-default}
 use Rattle.fields.specs.Field.{field}
 use Rattle.forms.specs.Form.{toldBy, formNumber, serialOn, serialsOf, linesOf}
-use Rattle.fields.proofs.Words.{length-words}
-use Rattle.forms.proofs.Rosters.{getD-words}
+use Rattle.fields.proofs.Words.{length-words, getD-words}
 use Rattle.forms.proofs.Told.{refusal, told-refused, told-taken, form-length}
 use Rattle.forms.proofs.form.read_serial.Statement.{statement}
 use Rattle.forms.proofs.form.read_serial.Tie as tie

@@ -8,7 +8,8 @@ use denote.Ref.{now}
 use lib.ListN.{length}
 use Rattle.fields.specs.Field.{words}
 use Rattle.forms.specs.Roster.{twins}
-use Rattle.forms.proofs.Rosters.{size-step, twins-end, twins-step}
+use Rattle.fields.proofs.Words.{size-step}
+use Rattle.forms.proofs.Rosters.{twins-end, twins-step}
 use Rattle.forms.proofs.roster.count_twins.Statement.{statement}
 use Rattle.forms.proofs.roster.count_twins.Tie as tie
 

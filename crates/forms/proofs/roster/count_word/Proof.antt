@@ -9,7 +9,8 @@ use denote.Ref.{now}
 use lib.ListN.{length}
 use Rattle.fields.specs.Field.{words}
 use Rattle.forms.specs.Roster.{count}
-use Rattle.forms.proofs.Rosters.{size-step, count-end, count-here, count-past}
+use Rattle.fields.proofs.Words.{size-step}
+use Rattle.forms.proofs.Rosters.{count-end, count-here, count-past}
 use Rattle.forms.proofs.roster.count_word.Statement.{statement}
 use Rattle.forms.proofs.roster.count_word.Tie as tie
 

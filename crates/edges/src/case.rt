@@ -1,5 +1,5 @@
-// A case of the input: a head of 44 bytes, the label, and the bytes that the call is given. The head has the call's number and the
-// length of the label, in two bytes each, the length of the bytes, in four, and what `Case` has; all of it big-endian.
+// A case of the input: a head, the label, and the bytes that the call is given. The head has the call's number and the length of
+// the label, in two bytes each, the length of the bytes, in four, and what `Case` has; all of it big-endian.
 // tests/model/edges.py writes it.
 use crate::field;
 use crate::read;
@@ -8,6 +8,7 @@ use crate::say;
 use crate::set;
 use crate::set::WINDOW;
 use crate::write;
+use evidence::rows::ROW;
 use evidence::rows::count_holders;
 use fields::field::half;
 use fields::field::long;
@@ -17,6 +18,9 @@ use search::greatest::find_greatest;
 use sets::ticks::Ticks;
 ghost use Prim.Native.Nat.{_≤_};
 ghost use lib.ListN.{length};
+
+// Bytes of a head.
+const HEAD: usize = 44;
 
 // The numbers of a case. Each call takes those that it has a use for.
 pub struct Case {
@@ -54,7 +58,7 @@ fn call_evidence(number: u32, case: Case, b: &[u8]) {
         top: case.top,
         mask: case.value,
     };
-    let n = b.len() / 28;
+    let n = b.len() / ROW;
     let m = case.count as usize;
     match number {
         8 => set::show(Ticks::none()),
@@ -87,15 +91,15 @@ fn call(number: u32, case: Case, b: &[u8]) {
 pub(crate) fn run(b: &[u8]) -> usize
     ensures { λ r. ⌜ r ≤ length (now (b .entry)) ⌝ }
 {
-    if b.len() < 44 {
+    if b.len() < HEAD {
         return 0;
     }
-    let start = 44 + half(b, 2) as usize;
+    let start = HEAD + half(b, 2) as usize;
     let end = start + word(b, 4) as usize;
     if b.len() < end {
         return 0;
     }
-    io::write_all(1, &b[44..start]);
+    io::write_all(1, &b[HEAD..start]);
     call(half(b, 0), head(b), &b[start..end]);
     say::end();
     end

@@ -4,14 +4,22 @@
 use crate::case::Case;
 use crate::say;
 use fields::field::word;
+use forms::form::SERIALS;
 use forms::form::write_form;
 use forms::frame::write_frame;
+use forms::roster::MOST_LINES;
 
-// The serials in b, at most 260.
-fn serials(b: &[u8]) -> [u32; 260] {
-    let mut list = [0u32; 260];
+// Bytes of the longest form.
+const ROOM: usize = SERIALS + 4 * MOST_LINES;
+
+// The most serials of a case: a byte does not hold their number.
+const LONGEST: usize = 260;
+
+// The serials in b.
+fn serials(b: &[u8]) -> [u32; LONGEST] {
+    let mut list = [0u32; LONGEST];
     let mut i = 0;
-    while i < 260 {
+    while i < LONGEST {
         if b.len() < 4 * i + 4 {
             return list;
         }
@@ -22,14 +30,14 @@ fn serials(b: &[u8]) -> [u32; 260] {
 }
 
 pub(crate) fn run(framed: bool, case: Case, b: &[u8]) {
-    let room = case.room % 137;
-    let mut all = [0xeeu8; 136];
+    let room = case.room % (ROOM + 1);
+    let mut all = [0xeeu8; ROOM];
     let out = &mut all[0..room];
     let answer = if framed {
         write_frame(case.kind, case.tick, case.last, out)
     } else {
         let list = serials(b);
-        let n = b.len() / 4 % 261;
+        let n = b.len() / 4 % (LONGEST + 1);
         write_form(case.count, case.serial, &list[0..n], out)
     };
     say::written(answer, out);

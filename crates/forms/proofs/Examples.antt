@@ -5,6 +5,7 @@ use Prim.Native.Nat.{ℕ}
 use mathlib.Core.List.{List, [], _∷_, List·Permᴰ·swap}
 use lib.ListN.{replicate}
 use Rattle.fields.specs.Field.{field, putField, words, putWords}
+use Rattle.fields.specs.Kind.{ECHO}
 use Rattle.forms.specs.Roster.{count, twins, rosterNumber}
 use Rattle.forms.specs.Form.{Reordered, formNumber, formTold, putForm, formWritten}
 use Rattle.forms.specs.Frame.{frameNumber, frameTold, putFrame, frameWritten}
@@ -41,7 +42,7 @@ numbers :
 unfolding rosterNumber count twins
 numbers = (refl, refl, refl, refl, refl, refl, refl, refl, refl)
 
-frame : frameTold 4000000000 (2 ∷ 0 ∷ 0 ∷ 0 ∷ 238 ∷ 107 ∷ 40 ∷ 0 ∷ []) ≡ record { number = 0; kind = 2; tick = 4000000000 }
+frame : frameTold 4000000000 (2 ∷ 0 ∷ 0 ∷ 0 ∷ 238 ∷ 107 ∷ 40 ∷ 0 ∷ []) ≡ record { number = 0; kind = ECHO; tick = 4000000000 }
 unfolding frameTold frameNumber field
 frame = refl
 
@@ -54,6 +55,6 @@ long : frameNumber 4000000000 (1 ∷ 0 ∷ 0 ∷ 0 ∷ 255 ∷ 255 ∷ 255 ∷ 2
 unfolding frameNumber
 long = refl
 
-frame-written : frameWritten 4000000000 2 69 (replicate 9 7) ≡ record { number = 0; written = 8; out = 2 ∷ 0 ∷ 0 ∷ 0 ∷ 0 ∷ 0 ∷ 0 ∷ 69 ∷ 7 ∷ [] }
+frame-written : frameWritten 4000000000 ECHO 69 (replicate 9 7) ≡ record { number = 0; written = 8; out = 2 ∷ 0 ∷ 0 ∷ 0 ∷ 0 ∷ 0 ∷ 0 ∷ 69 ∷ 7 ∷ [] }
 unfolding frameWritten putFrame putField
 frame-written = refl

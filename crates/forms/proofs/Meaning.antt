@@ -14,9 +14,10 @@ use lib.Dec.{ltb, eqb, eqb·suc-zero}
 use borrow.Author.Tests.{ltb-true, lt-ltb, eqb-true, eqb-false, eq-eqb}
 use Rattle.forms.specs.Number.{orElse}
 use Rattle.fields.specs.Field.{field}
-use Rattle.forms.specs.Roster.{count, twins, rosterNumber}
-use Rattle.forms.specs.Form.{linesOf, faultsOf, ownOf, serialsOf, misplaced, FormTold, formNumber, formTold, WriteTold, writeTold, formWritten}
-use Rattle.forms.specs.Frame.{badKind, FrameTold, frameNumber, frameTold, frameWritten}
+use Rattle.fields.specs.Kind.{INIT, ECHO}
+use Rattle.forms.specs.Roster.{mostLines, count, twins, rosterNumber}
+use Rattle.forms.specs.Form.{serialsPlace, formSize, linesOf, faultsOf, ownOf, serialsOf, misplaced, FormTold, formNumber, formTold, WriteTold, writeTold, formWritten}
+use Rattle.forms.specs.Frame.{frameSize, badKind, FrameTold, frameNumber, frameTold, frameWritten}
 use Rattle.forms.specs.Table.{_or_, Misplaced, HasZero, Twice, Stranger, Beyond, BadKind, Misshapen, Check, _when_, Given, Says, rosterChecks, formChecks, frameChecks, roomCheck}
 use Rattle.fields.proofs.Words.{length-words}
 
@@ -142,7 +143,7 @@ pub roster-then : (f own : ℕ) (serials : List ℕ) {next : ℕ} {checks : List
 unfolding rosterNumber
 roster-then f own serials {next} {checks} says fresh =
     rw (past, past, past, past)
-    (in-front 2 (either _ _ (either _ _ (less (length serials) 1) (less 32 (length serials))) (less (length serials) (3 * f + 1))) (λ g. fresh .0 (g .1 .1 .1))
+    (in-front 2 (either _ _ (either _ _ (less (length serials) 1) (less mostLines (length serials))) (less (length serials) (3 * f + 1))) (λ g. fresh .0 (g .1 .1 .1))
     (in-front 3 (Iff·trans (less 0 (count 0 (own ∷ serials))) (zeros own serials)) (λ g. fresh .1 (g .1 .1))
     (in-front 4 (Iff·trans (less 0 (twins serials)) (twice-says serials)) (λ g. fresh .2 (g .1))
     (in-front 5 (absent own serials) (fresh .3)
@@ -173,7 +174,7 @@ unfolding formTold
 form-told b = told (λ (t : FormTold). t .number) _ _ (formNumber b) refl refl
 
 misplaced-says : (b : List ℕ) → Decides (misplaced b) (Misplaced b)
-misplaced-says b = either _ _ (either _ _ (less (length b) 8) (opposite _ (equal (field 2 b 2) 8))) (opposite _ (equal (length b) (8 + 4 * linesOf b)))
+misplaced-says b = either _ _ (either _ _ (less (length b) serialsPlace) (opposite _ (equal (field 2 b 2) serialsPlace))) (opposite _ (equal (length b) (formSize (linesOf b))))
 
 -- the form reader's number is what rows 1 to 5 give
 pub form-says : (b : List ℕ) → Says (formTold b .number) (formChecks b)
@@ -181,7 +182,7 @@ unfolding formNumber
 form-says b =
     rw (form-told b)
     (in-front 1 (misplaced-says b) (omega arith)
-    (rw (length-words (linesOf b) 4 b 8) at (roster-says (faultsOf b) (ownOf b) (serialsOf b))))
+    (rw (length-words (linesOf b) 4 b serialsPlace) at (roster-says (faultsOf b) (ownOf b) (serialsOf b))))
 
 -- a form's number, with other checks behind
 pub form-then : (b : List ℕ) {next : ℕ} {checks : List Check} →
@@ -191,10 +192,10 @@ unfolding formNumber
 form-then b {next} {checks} says fresh =
     rw past
     (in-front 1 (misplaced-says b) (λ g. fresh .0 (g .1 .1 .1 .1))
-    (rw (length-words (linesOf b) 4 b 8) at (roster-then (faultsOf b) (ownOf b) (serialsOf b) says (fresh .1, fresh .2, fresh .3, fresh .4))))
+    (rw (length-words (linesOf b) 4 b serialsPlace) at (roster-then (faultsOf b) (ownOf b) (serialsOf b) says (fresh .1, fresh .2, fresh .3, fresh .4))))
 
 bad : (kind : ℕ) → Decides (badKind kind) (BadKind kind)
-bad kind = both _ _ (opposite _ (equal kind 1)) (opposite _ (equal kind 2))
+bad kind = both _ _ (opposite _ (equal kind INIT)) (opposite _ (equal kind ECHO))
 
 -- the frame reader tells `frameNumber`
 pub frame-told : (last : ℕ) (b : List ℕ) → frameTold last b .number ≡ frameNumber last b
@@ -206,7 +207,7 @@ pub frame-says : (last : ℕ) (b : List ℕ) → Says (frameTold last b .number)
 unfolding frameNumber
 frame-says last b =
     rw (frame-told last b)
-    (in-front 10 (either _ _ (either _ _ (either _ _ (either _ _ (opposite _ (equal (length b) 8)) (bad (getD b 0 0))) (is0 1)) (is0 2)) (is0 3)) (omega arith)
+    (in-front 10 (either _ _ (either _ _ (either _ _ (either _ _ (opposite _ (equal (length b) frameSize)) (bad (getD b 0 0))) (is0 1)) (is0 2)) (is0 3)) (omega arith)
     (in-front 11 (less last (field 4 b 4)) (omega arith) none))
   where
     is0 : (i : ℕ) → Decides (not (eqb (getD b i 0) 0)) (getD b i 0 ≢ 0)
@@ -229,16 +230,16 @@ write-number (suc n) size before after = rw (eqb·suc-zero n)
 
 -- the form writer's number is what rows 2 to 5 give, and 7 last
 pub form-writer-says : (f own : ℕ) (serials out : List ℕ) →
-    Says (formWritten f own serials out .number) (rosterChecks (length serials) f own serials ++ roomCheck (8 + 4 * length serials) out ∷ [])
+    Says (formWritten f own serials out .number) (rosterChecks (length serials) f own serials ++ roomCheck (formSize (length serials)) out ∷ [])
 unfolding formWritten
-form-writer-says f own serials out = rw write-number (roster-then f own serials (room (8 + 4 * length serials) out) (omega arith))
+form-writer-says f own serials out = rw write-number (roster-then f own serials (room (formSize (length serials)) out) (omega arith))
 
 -- the frame writer's number is 10 for the kind, then 11, and 7 last
 pub frame-writer-says : (last kind tick : ℕ) (out : List ℕ) →
-    Says (frameWritten last kind tick out .number) (10 when BadKind kind ∷ 11 when (last < tick) ∷ roomCheck 8 out ∷ [])
+    Says (frameWritten last kind tick out .number) (10 when BadKind kind ∷ 11 when (last < tick) ∷ roomCheck frameSize out ∷ [])
 unfolding frameWritten
 frame-writer-says last kind tick out =
-    rw (write-number, past, past) (in-front 10 (bad kind) (omega arith) (in-front 11 (less last tick) (omega arith) (room 8 out)))
+    rw (write-number, past, past) (in-front 10 (bad kind) (omega arith) (in-front 11 (less last tick) (omega arith) (room frameSize out)))
 
 -- ---- single rows
 
@@ -251,5 +252,5 @@ row-11 : (last : ℕ) (b : List ℕ) → (frameTold last b .number ≡ 11) ↔ (
 row-11 last b = frame-says last b .exactly 11
 
 row-7 : (last kind tick : ℕ) (out : List ℕ) →
-    (frameWritten last kind tick out .number ≡ 7) ↔ ((BadKind kind → ⊥) × ((last < tick → ⊥) × (length out < 8)))
+    (frameWritten last kind tick out .number ≡ 7) ↔ ((BadKind kind → ⊥) × ((last < tick → ⊥) × (length out < frameSize)))
 row-7 last kind tick out = frame-writer-says last kind tick out .exactly 7

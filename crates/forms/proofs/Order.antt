@@ -13,7 +13,7 @@ use lib.Dec.{eqb}
 use borrow.Author.Tests.{eq-eqb, ne-eqb}
 use Rattle.fields.specs.Field.{field, words}
 use Rattle.forms.specs.Roster.{count, twins, rosterNumber}
-use Rattle.forms.specs.Form.{linesOf, faultsOf, ownOf, serialsOf, linesIn, Reordered, misplaced, formNumber, formTold, formWritten}
+use Rattle.forms.specs.Form.{serialsPlace, formSize, linesOf, faultsOf, ownOf, serialsOf, linesIn, Reordered, misplaced, formNumber, formTold, formWritten}
 use Rattle.fields.proofs.Fields.{field-same}
 use Rattle.forms.proofs.Meaning.{write-number}
 use Rattle.forms.proofs.Told.{placed-length, taken-parts}
@@ -62,17 +62,17 @@ write-order f own out p = simp write-number (cc (roster-order f own p, length-or
 -- ---- a form
 
 -- a form of right length holds n lines
-lines-serials : (b : List ℕ) → length b ≡ 8 + 4 * linesOf b → linesIn b ≡ serialsOf b
-lines-serials b e = ap (λ (n : ℕ). words n 4 b 8) (omega arith)
+lines-serials : (b : List ℕ) → length b ≡ formSize (linesOf b) → linesIn b ≡ serialsOf b
+lines-serials b e = ap (λ (n : ℕ). words n 4 b serialsPlace) (omega arith)
 
 -- two forms that differ in the order of their lines only
 module _ {b c : List ℕ} (r : Reordered b c) where
   -- the bytes in front of the lines are the same
-  pub byte-same : (i : ℕ) → i < 8 → getD b i 0 ≡ getD c i 0
-  byte-same i h = sym (getD-take 8 b i 0 h) ∙ ap (λ (l : List ℕ). getD l i 0) (r .front) ∙ getD-take 8 c i 0 h
+  pub byte-same : (i : ℕ) → i < serialsPlace → getD b i 0 ≡ getD c i 0
+  byte-same i h = sym (getD-take serialsPlace b i 0 h) ∙ ap (λ (l : List ℕ). getD l i 0) (r .front) ∙ getD-take serialsPlace c i 0 h
 
   -- and so are the fields there
-  pub front-same : (w i : ℕ) → i + w ≤ 8 → field w b i ≡ field w c i
+  pub front-same : (w i : ℕ) → i + w ≤ serialsPlace → field w b i ≡ field w c i
   front-same w i h = field-same w b c i i (λ k p. byte-same (i + k) (omega arith))
 
   -- both have the same layout

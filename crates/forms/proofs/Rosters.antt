@@ -11,7 +11,7 @@ use lib.ListN.{length}
 use lib.Dec.{ltb, eqb}
 use borrow.Author.Tests.{lt-ltb, le-ltb, ltb-false, eqb-true, eq-eqb, ne-eqb}
 use Rattle.fields.specs.Field.{field, words}
-use Rattle.forms.specs.Roster.{count, twins, rosterNumber}
+use Rattle.forms.specs.Roster.{mostLines, count, twins, rosterNumber}
 use Rattle.forms.specs.Table.{Twice}
 use Rattle.fields.proofs.Words.{words-step, words-end}
 use Rattle.forms.proofs.Meaning.{twice-says, roster-says}
@@ -50,22 +50,22 @@ twins-step n s b i x p e = rw e (ap twins (words-step n s b i p))
 
 -- f faults and n lines are within the limits
 abbrev pub Limits : ℕ → ℕ → Type 0
-Limits f n = (1 ≤ n) × (n ≤ 32) × (3 * f + 1 ≤ n)
+Limits f n = (1 ≤ n) × (n ≤ mostLines) × (3 * f + 1 ≤ n)
 
 abbrev beyond : ℕ → ℕ → Bool
-beyond f n = ltb n 1 || ltb 32 n || ltb n (3 * f + 1)
+beyond f n = ltb n 1 || ltb mostLines n || ltb n (3 * f + 1)
 
 within : (f n : ℕ) → Limits f n → beyond f n ≡ false
-within f n h = rw (le-ltb n 1 (h .0), le-ltb 32 n (h .1), le-ltb n (3 * f + 1) (h .2))
+within f n h = rw (le-ltb n 1 (h .0), le-ltb mostLines n (h .1), le-ltb n (3 * f + 1) (h .2))
 
 limits : (f n : ℕ) → Limits f n ⊎ (beyond f n ≡ true)
-limits f n = go (ltb n 1) (ltb 32 n) (ltb n (3 * f + 1)) refl refl refl
+limits f n = go (ltb n 1) (ltb mostLines n) (ltb n (3 * f + 1)) refl refl refl
   where
-    go : (s t u : Bool) → ltb n 1 ≡ s → ltb 32 n ≡ t → ltb n (3 * f + 1) ≡ u → Limits f n ⊎ (beyond f n ≡ true)
+    go : (s t u : Bool) → ltb n 1 ≡ s → ltb mostLines n ≡ t → ltb n (3 * f + 1) ≡ u → Limits f n ⊎ (beyond f n ≡ true)
     go true t u p q r = inr (rw p)
     go false true u p q r = inr (rw (p, q))
     go false false true p q r = inr (rw (p, q, r))
-    go false false false p q r = inl (ltb-false n 1 p, ltb-false 32 n q, ltb-false n (3 * f + 1) r)
+    go false false false p q r = inl (ltb-false n 1 p, ltb-false mostLines n q, ltb-false n (3 * f + 1) r)
 
 module _ (f own : ℕ) (serials : List ℕ) where
   beyond-two : beyond f (length serials) ≡ true → rosterNumber f own serials ≡ 2

@@ -14,9 +14,9 @@ use lib.Dec.{ltb, eqb, lit≤}
 use borrow.Author.Tests.{eqb-true, eqb-false, ltb-false, eq-eqb, le-ltb}
 use Rattle.fields.specs.Field.{field, putField, words, Bytes}
 use Rattle.forms.specs.Roster.{rosterNumber}
-use Rattle.forms.specs.Form.{linesOf, faultsOf, ownOf, serialsOf, formNumber, formTold, serialOn}
+use Rattle.forms.specs.Form.{serialsPlace, formSize, linesOf, faultsOf, ownOf, serialsOf, formNumber, formTold, serialOn}
 use Rattle.forms.specs.Form.{WriteTold, writeTold, putForm, formWritten}
-use Rattle.forms.specs.Frame.{badKind, frameNumber, frameTold, putFrame, frameWritten, frameWriteNumber}
+use Rattle.forms.specs.Frame.{frameSize, badKind, frameNumber, frameTold, putFrame, frameWritten, frameWriteNumber}
 use Rattle.forms.specs.Table.{Given, formChecks, frameChecks}
 use Rattle.fields.proofs.Fields.{field-byte, field-take, field-put, field-put-other, put-field, length-put, take-put, drop-put}
 use Rattle.fields.proofs.Words.{Words, length-words, words-same, length-putWords, field-putWords-before, words-putWords, putWords-words}
@@ -79,32 +79,28 @@ module _ (number size : ℕ) (before after : List ℕ) where
 
 -- ---- the form
 
--- the length of a form with these serials
-abbrev pub formSize : List ℕ → ℕ
-formSize serials = 8 + 4 * length serials
-
 module _ (out : List ℕ) (f own : ℕ) (serials : List ℕ) where
   length-form : length (putForm out f own serials) ≡ length out
   unfolding putForm
   length-form = simp (length-putWords, length-put)
 
-  drop-form : drop (formSize serials) (putForm out f own serials) ≡ drop (formSize serials) out
+  drop-form : drop (formSize (length serials)) (putForm out f own serials) ≡ drop (formSize (length serials)) out
   unfolding putForm
   drop-form =
-      drop-putWords 4 _ 8 serials (formSize serials) (lit≤ tt) (omega arith)
-      ∙ drop-put 4 _ 4 own (formSize serials) (omega arith)
-      ∙ drop-put 2 _ 2 8 (formSize serials) (omega arith)
-      ∙ drop-put 1 _ 1 f (formSize serials) (omega arith)
-      ∙ drop-put 1 out 0 (length serials) (formSize serials) (omega arith)
+      drop-putWords 4 _ serialsPlace serials (formSize (length serials)) (lit≤ tt) (omega arith)
+      ∙ drop-put 4 _ 4 own (formSize (length serials)) (omega arith)
+      ∙ drop-put 2 _ 2 serialsPlace (formSize (length serials)) (omega arith)
+      ∙ drop-put 1 _ 1 f (formSize (length serials)) (omega arith)
+      ∙ drop-put 1 out 0 (length serials) (formSize (length serials)) (omega arith)
 
   -- the bytes written do not depend on what stood there
-  take-form : (b : List ℕ) → formSize serials ≤ length out → formSize serials ≤ length b →
-      take (formSize serials) (putForm out f own serials) ≡ take (formSize serials) (putForm b f own serials)
+  take-form : (b : List ℕ) → formSize (length serials) ≤ length out → formSize (length serials) ≤ length b →
+      take (formSize (length serials)) (putForm out f own serials) ≡ take (formSize (length serials)) (putForm b f own serials)
   unfolding putForm
   take-form b p q =
-      take-putWords _ _ 8 serials (formSize serials) (omega arith) (simp length-put p) (simp length-put q)
+      take-putWords _ _ serialsPlace serials (formSize (length serials)) (omega arith) (simp length-put p) (simp length-put q)
       (take-put 4 _ _ 4 own (simp length-put (omega arith)) (simp length-put (omega arith))
-      (take-put 2 _ _ 2 8 (simp length-put (omega arith)) (simp length-put (omega arith))
+      (take-put 2 _ _ 2 serialsPlace (simp length-put (omega arith)) (simp length-put (omega arith))
       (take-put 1 _ _ 1 f (simp length-put (omega arith)) (simp length-put (omega arith))
       (take-put 1 out b 0 (length serials) (omega arith) (omega arith) refl))))
 
@@ -112,13 +108,13 @@ module _ (out : List ℕ) (f own : ℕ) (serials : List ℕ) where
 module _ (f own : ℕ) (serials out : List ℕ) (fits : own < 2 ^ 32) (whole : Words serials)
     (ok : formWritten f own serials out .number ≡ 0) where
   form : List ℕ
-  form = take (formSize serials) (putForm out f own serials)
+  form = take (formSize (length serials)) (putForm out f own serials)
 
   done :
-      (rosterNumber f own serials ≡ 0) × (formSize serials ≤ length out)
-      × (formWritten f own serials out ≡ record { number = 0; written = formSize serials; out = putForm out f own serials })
+      (rosterNumber f own serials ≡ 0) × (formSize (length serials) ≤ length out)
+      × (formWritten f own serials out ≡ record { number = 0; written = formSize (length serials); out = putForm out f own serials })
   unfolding formWritten
-  done = wrote (rosterNumber f own serials) (formSize serials) out (putForm out f own serials) ok
+  done = wrote (rosterNumber f own serials) (formSize (length serials)) out (putForm out f own serials) ok
 
   front : formWritten f own serials out .out ≡ putForm out f own serials
   front = ap (λ (t : WriteTold). t .out) (done .2)
@@ -127,17 +123,17 @@ module _ (f own : ℕ) (serials out : List ℕ) (fits : own < 2 ^ 32) (whole : W
   limits = roster-limits f own serials (done .0)
 
   -- a field in front of the serials
-  header : (w i : ℕ) → i + w ≤ 8 →
-      field w form i ≡ field w (putField 4 (putField 2 (putField 1 (putField 1 out 0 (length serials)) 1 f) 2 8) 4 own) i
+  header : (w i : ℕ) → i + w ≤ serialsPlace →
+      field w form i ≡ field w (putField 4 (putField 2 (putField 1 (putField 1 out 0 (length serials)) 1 f) 2 serialsPlace) 4 own) i
   unfolding form putForm
-  header w i p = field-take w (formSize serials) _ i (omega arith) ∙ field-putWords-before w 4 _ 8 serials i p
+  header w i p = field-take w (formSize (length serials)) _ i (omega arith) ∙ field-putWords-before w 4 _ serialsPlace serials i p
 
   lines-back : linesOf form ≡ length serials
   lines-back =
       sym (field-byte form 0)
       ∙ header 1 0 (omega arith)
       ∙ field-put-other 1 4 _ 4 own 0 (omega arith)
-      ∙ field-put-other 1 2 _ 2 8 0 (omega arith)
+      ∙ field-put-other 1 2 _ 2 serialsPlace 0 (omega arith)
       ∙ field-put-other 1 1 _ 1 f 0 (omega arith)
       ∙ field-put 1 out 0 (length serials) (omega (arith, done .1)) (omega (arith, limits))
 
@@ -146,14 +142,14 @@ module _ (f own : ℕ) (serials out : List ℕ) (fits : own < 2 ^ 32) (whole : W
       sym (field-byte form 1)
       ∙ header 1 1 (omega arith)
       ∙ field-put-other 1 4 _ 4 own 1 (omega arith)
-      ∙ field-put-other 1 2 _ 2 8 1 (omega arith)
+      ∙ field-put-other 1 2 _ 2 serialsPlace 1 (omega arith)
       ∙ field-put 1 _ 1 f (simp length-put (omega (arith, done .1))) (omega (arith, limits))
 
-  offset-back : field 2 form 2 ≡ 8
+  offset-back : field 2 form 2 ≡ serialsPlace
   offset-back =
       header 2 2 (omega arith)
       ∙ field-put-other 2 4 _ 4 own 2 (omega arith)
-      ∙ field-put 2 _ 2 8 (simp length-put (omega (arith, done .1))) (omega arith)
+      ∙ field-put 2 _ 2 serialsPlace (simp length-put (omega (arith, done .1))) (omega arith)
 
   own-back : ownOf form ≡ own
   own-back = header 4 4 (omega arith) ∙ field-put 4 _ 4 own (simp length-put (omega (arith, done .1))) fits
@@ -161,81 +157,82 @@ module _ (f own : ℕ) (serials out : List ℕ) (fits : own < 2 ^ 32) (whole : W
   serials-back : serialsOf form ≡ serials
   unfolding form putForm
   serials-back =
-      ap (λ (n : ℕ). words n 4 form 8) lines-back
-      ∙ words-same (length serials) 4 form _ 8 8 (omega arith) (λ k p. getD-take (formSize serials) _ (8 + k) 0 (omega arith))
-      ∙ words-putWords 4 _ 8 serials (omega arith) (simp length-put (omega (arith, done .1))) whole
+      ap (λ (n : ℕ). words n 4 form serialsPlace) lines-back
+      ∙ words-same (length serials) 4 form _ serialsPlace serialsPlace (omega arith)
+      (λ k p. getD-take (formSize (length serials)) _ (serialsPlace + k) 0 (omega arith))
+      ∙ words-putWords 4 _ serialsPlace serials (omega arith) (simp length-put (omega (arith, done .1))) whole
 
   number-back : formNumber form ≡ 0
   unfolding formNumber form
   number-back =
       cc (
-        le-ltb (length form) 8 (omega (arith, size)),
-        eq-eqb (field 2 form 2) 8 offset-back,
-        eq-eqb (length form) (8 + 4 * linesOf form) (omega (arith, size, lines-back)),
+        le-ltb (length form) serialsPlace (omega (arith, size)),
+        eq-eqb (field 2 form 2) serialsPlace offset-back,
+        eq-eqb (length form) (formSize (linesOf form)) (omega (arith, size, lines-back)),
         faults-back,
         own-back,
         serials-back,
         done .0,
       )
     where
-      size : length form ≡ formSize serials
-      size = length-take-le (formSize serials) (putForm out f own serials) (omega (arith, done .1, length-form out f own serials))
+      size : length form ≡ formSize (length serials)
+      size = length-take-le (formSize (length serials)) (putForm out f own serials) (omega (arith, done .1, length-form out f own serials))
 
   -- its bytes are read back with n, f and the own serial
   pub form-read-back :
-      formTold (take (formSize serials) (formWritten f own serials out .out)) ≡ record { number = 0; lines = length serials; faults = f; own = own }
+      formTold (take (formSize (length serials)) (formWritten f own serials out .out)) ≡ record { number = 0; lines = length serials; faults = f; own = own }
   unfolding formTold form
   form-read-back = rw front (cc (number-back, lines-back, faults-back, own-back))
 
   -- and with the serials
-  pub serials-read-back : serialsOf (take (formSize serials) (formWritten f own serials out .out)) ≡ serials
+  pub serials-read-back : serialsOf (take (formSize (length serials)) (formWritten f own serials out .out)) ≡ serials
   unfolding form
   serials-read-back = rw front serials-back
 
   -- line by line
-  pub serial-read-back : (line : ℕ) → serialOn (take (formSize serials) (formWritten f own serials out .out)) line ≡ getD serials line 0
+  pub serial-read-back : (line : ℕ) → serialOn (take (formSize (length serials)) (formWritten f own serials out .out)) line ≡ getD serials line 0
   unfolding serialOn form
   serial-read-back line = rw front (cc (number-back, serials-back))
 
 -- bytes behind a form stay, and so does the length, whatever the number
 pub form-kept : (f own : ℕ) (serials out : List ℕ) →
-    (drop (formSize serials) (formWritten f own serials out .out) ≡ drop (formSize serials) out) × (length (formWritten f own serials out .out) ≡ length out)
+    (drop (formSize (length serials)) (formWritten f own serials out .out) ≡ drop (formSize (length serials)) out) × (length (formWritten f own serials out .out) ≡ length out)
 unfolding formWritten
 form-kept f own serials out =
-    kept-bytes (rosterNumber f own serials) (formSize serials) out (putForm out f own serials) (drop-form out f own serials) (length-form out f own serials)
+    kept-bytes (rosterNumber f own serials) (formSize (length serials)) out (putForm out f own serials) (drop-form out f own serials) (length-form out f own serials)
 
 -- a form that is refused is not written at all
 pub form-refused : (f own : ℕ) (serials out : List ℕ) → (formWritten f own serials out .number ≡ 0 → ⊥) →
     (formWritten f own serials out .written ≡ 0) × (formWritten f own serials out .out ≡ out)
 unfolding formWritten
-form-refused f own serials out = refused-bytes (rosterNumber f own serials) (formSize serials) out (putForm out f own serials)
+form-refused f own serials out = refused-bytes (rosterNumber f own serials) (formSize (length serials)) out (putForm out f own serials)
 
 -- a form that is taken, written over itself, stays
-form-self : (b : List ℕ) → Bytes b → field 2 b 2 ≡ 8 → putForm b (faultsOf b) (ownOf b) (serialsOf b) ≡ b
+form-self : (b : List ℕ) → Bytes b → field 2 b 2 ≡ serialsPlace → putForm b (faultsOf b) (ownOf b) (serialsOf b) ≡ b
 unfolding putForm
 form-self b h e =
     cc
-    (field-byte b 0, field-byte b 1, length-words (linesOf b) 4 b 8, put-field 1 b 0 h, put-field 1 b 1 h, put-field 2 b 2 h, put-field 4 b 4 h, putWords-words (linesOf b) 4 b 8 h)
+    (field-byte b 0, field-byte b 1, length-words (linesOf b) 4 b serialsPlace, put-field 1 b 0 h, put-field 1 b 1 h, put-field 2 b 2 h, put-field 4 b 4 h, putWords-words (linesOf b) 4 b serialsPlace h)
 
 -- what the form reader took, the form writer writes byte for byte, over the front of the output
 pub form-written-again : (b out : List ℕ) → Bytes b → formNumber b ≡ 0 → length b ≤ length out →
     formWritten (faultsOf b) (ownOf b) (serialsOf b) out ≡ record { number = 0; written = length b; out = b ++ drop (length b) out }
 unfolding formWritten
 form-written-again b out h e p =
-    wrote-bytes (rosterNumber (faultsOf b) (ownOf b) (serialsOf b)) (formSize (serialsOf b)) out
+    wrote-bytes (rosterNumber (faultsOf b) (ownOf b) (serialsOf b)) (formSize (length (serialsOf b))) out
     (putForm out (faultsOf b) (ownOf b) (serialsOf b)) b ok size
     (take-form out (faultsOf b) (ownOf b) (serialsOf b) b (omega (arith, size)) (omega (arith, size))
-    ∙ ap (take (formSize (serialsOf b))) (form-self b h (settled _ _ (λ n. g .0 (inl (inr n))))))
+    ∙ ap (take (formSize (length (serialsOf b)))) (form-self b h (settled _ _ (λ n. g .0 (inl (inr n))))))
     (drop-form out (faultsOf b) (ownOf b) (serialsOf b))
   where
     g : Given (formChecks b) 0
     g = form-says b .exactly 0 .0 (form-told b ∙ e)
 
-    size : length b ≡ formSize (serialsOf b)
-    size = omega (arith, form-length b e, length-words (linesOf b) 4 b 8)
+    size : length b ≡ formSize (length (serialsOf b))
+    size = omega (arith, form-length b e, length-words (linesOf b) 4 b serialsPlace)
 
     ok : formWritten (faultsOf b) (ownOf b) (serialsOf b) out .number ≡ 0
-    ok = rw (form-roster b e, le-ltb (length out) (formSize (serialsOf b)) (omega (arith, size)))
+    ok = rw (form-roster b e, le-ltb (length out) (formSize (length (serialsOf b))) (omega (arith, size)))
 
 -- ---- the frame
 
@@ -244,11 +241,11 @@ module _ (out : List ℕ) (kind tick : ℕ) where
   unfolding putFrame
   length-frame = simp length-put
 
-  drop-frame : drop 8 (putFrame out 0 kind tick) ≡ drop 8 out
+  drop-frame : drop frameSize (putFrame out 0 kind tick) ≡ drop frameSize out
   unfolding putFrame
-  drop-frame = drop-put 4 _ 4 tick 8 (omega arith) ∙ drop-put 3 _ 1 0 8 (omega arith) ∙ drop-put 1 out 0 kind 8 (omega arith)
+  drop-frame = drop-put 4 _ 4 tick frameSize (omega arith) ∙ drop-put 3 _ 1 0 frameSize (omega arith) ∙ drop-put 1 out 0 kind frameSize (omega arith)
 
-  take-frame : (b : List ℕ) → 8 ≤ length out → 8 ≤ length b → take 8 (putFrame out 0 kind tick) ≡ take 8 (putFrame b 0 kind tick)
+  take-frame : (b : List ℕ) → frameSize ≤ length out → frameSize ≤ length b → take frameSize (putFrame out 0 kind tick) ≡ take frameSize (putFrame b 0 kind tick)
   unfolding putFrame
   take-frame b p q =
       take-put 4 _ _ 4 tick (simp length-put (omega arith)) (simp length-put (omega arith))
@@ -263,19 +260,19 @@ zero-bytes b = omega arith
 -- a frame that the writer gave number 0
 module _ (last kind tick : ℕ) (out : List ℕ) (fits : tick < 2 ^ 32) (ok : frameWritten last kind tick out .number ≡ 0) where
   frame : List ℕ
-  frame = take 8 (putFrame out 0 kind tick)
+  frame = take frameSize (putFrame out 0 kind tick)
 
   sent :
-      (frameWriteNumber last kind tick ≡ 0) × (8 ≤ length out)
-      × (frameWritten last kind tick out ≡ record { number = 0; written = 8; out = putFrame out 0 kind tick })
+      (frameWriteNumber last kind tick ≡ 0) × (frameSize ≤ length out)
+      × (frameWritten last kind tick out ≡ record { number = 0; written = frameSize; out = putFrame out 0 kind tick })
   unfolding frameWritten
-  sent = wrote (frameWriteNumber last kind tick) 8 out (putFrame out 0 kind tick) ok
+  sent = wrote (frameWriteNumber last kind tick) frameSize out (putFrame out 0 kind tick) ok
 
   kind-back : getD frame 0 0 ≡ kind
   unfolding frame putFrame
   kind-back =
       sym (field-byte frame 0)
-      ∙ field-take 1 8 _ 0 (omega arith)
+      ∙ field-take 1 frameSize _ 0 (omega arith)
       ∙ field-put-other 1 4 _ 4 tick 0 (omega arith)
       ∙ field-put-other 1 3 _ 1 0 0 (omega arith)
       ∙ field-put 1 out 0 kind (omega (arith, sent .1)) small
@@ -286,38 +283,38 @@ module _ (last kind tick : ℕ) (out : List ℕ) (fits : tick < 2 ^ 32) (ok : fr
   zeros-back : field 3 frame 1 ≡ 0
   unfolding frame putFrame
   zeros-back =
-      field-take 3 8 _ 1 (omega arith)
+      field-take 3 frameSize _ 1 (omega arith)
       ∙ field-put-other 3 4 _ 4 tick 1 (omega arith)
       ∙ field-put 3 _ 1 0 (simp length-put (omega (arith, sent .1))) (omega arith)
 
   tick-back : field 4 frame 4 ≡ tick
   unfolding frame putFrame
-  tick-back = field-take 4 8 _ 4 (omega arith) ∙ field-put 4 _ 4 tick (simp length-put (sent .1)) fits
+  tick-back = field-take 4 frameSize _ 4 (omega arith) ∙ field-put 4 _ 4 tick (simp length-put (sent .1)) fits
 
   frame-number-back : frameNumber last frame ≡ 0
   unfolding frameNumber frame
   frame-number-back = cc (size, kind-back, zero-bytes frame .0 zeros-back .0, zero-bytes frame .0 zeros-back .1, zero-bytes frame .0 zeros-back .2, tick-back, or-false (badKind kind), sent .0)
     where
-      size : length frame ≡ 8
-      size = length-take-le 8 (putFrame out 0 kind tick) (omega (arith, sent .1, length-frame out kind tick))
+      size : length frame ≡ frameSize
+      size = length-take-le frameSize (putFrame out 0 kind tick) (omega (arith, sent .1, length-frame out kind tick))
 
   -- its bytes are read back with kind and tick
-  pub frame-read-back : frameTold last (take 8 (frameWritten last kind tick out .out)) ≡ record { number = 0; kind = kind; tick = tick }
+  pub frame-read-back : frameTold last (take frameSize (frameWritten last kind tick out .out)) ≡ record { number = 0; kind = kind; tick = tick }
   unfolding frameTold frame
   frame-read-back = rw (ap (λ (t : WriteTold). t .out) (sent .2)) (cc (frame-number-back, kind-back, tick-back))
 
 -- bytes behind a frame stay, and so does the length, whatever the number
 pub frame-kept : (last kind tick : ℕ) (out : List ℕ) →
-    (drop 8 (frameWritten last kind tick out .out) ≡ drop 8 out) × (length (frameWritten last kind tick out .out) ≡ length out)
+    (drop frameSize (frameWritten last kind tick out .out) ≡ drop frameSize out) × (length (frameWritten last kind tick out .out) ≡ length out)
 unfolding frameWritten
 frame-kept last kind tick out =
-    kept-bytes (frameWriteNumber last kind tick) 8 out (putFrame out 0 kind tick) (drop-frame out kind tick) (length-frame out kind tick)
+    kept-bytes (frameWriteNumber last kind tick) frameSize out (putFrame out 0 kind tick) (drop-frame out kind tick) (length-frame out kind tick)
 
 -- a frame that is refused is not written at all
 pub frame-refused : (last kind tick : ℕ) (out : List ℕ) → (frameWritten last kind tick out .number ≡ 0 → ⊥) →
     (frameWritten last kind tick out .written ≡ 0) × (frameWritten last kind tick out .out ≡ out)
 unfolding frameWritten
-frame-refused last kind tick out = refused-bytes (frameWriteNumber last kind tick) 8 out (putFrame out 0 kind tick)
+frame-refused last kind tick out = refused-bytes (frameWriteNumber last kind tick) frameSize out (putFrame out 0 kind tick)
 
 -- a frame that is taken, written over itself, stays
 frame-self : (b : List ℕ) → Bytes b → field 3 b 1 ≡ 0 → putFrame b 0 (getD b 0 0) (field 4 b 4) ≡ b
@@ -329,14 +326,14 @@ pub frame-written-again : (last : ℕ) (b out : List ℕ) → Bytes b → frameN
     frameWritten last (getD b 0 0) (field 4 b 4) out ≡ record { number = 0; written = length b; out = b ++ drop (length b) out }
 unfolding frameWritten
 frame-written-again last b out h e p =
-    wrote-bytes (frameWriteNumber last (getD b 0 0) (field 4 b 4)) 8 out (putFrame out 0 (getD b 0 0) (field 4 b 4)) b ok size
-    (take-frame out (getD b 0 0) (field 4 b 4) b (omega (arith, size)) (omega (arith, size)) ∙ ap (λ (l : List ℕ). take 8 l) (frame-self b h zeros))
+    wrote-bytes (frameWriteNumber last (getD b 0 0) (field 4 b 4)) frameSize out (putFrame out 0 (getD b 0 0) (field 4 b 4)) b ok size
+    (take-frame out (getD b 0 0) (field 4 b 4) b (omega (arith, size)) (omega (arith, size)) ∙ ap (λ (l : List ℕ). take frameSize l) (frame-self b h zeros))
     (drop-frame out (getD b 0 0) (field 4 b 4))
   where
     g : Given (frameChecks last b) 0
     g = frame-says last b .exactly 0 .0 (frame-told last b ∙ e)
 
-    size : length b ≡ 8
+    size : length b ≡ frameSize
     size = settled _ _ (λ n. g .0 (inl (inl (inl (inl n)))))
 
     zeros : field 3 b 1 ≡ 0

@@ -4,13 +4,13 @@
 use mathlib.Core.Path.{_≡_, refl, sym, ap, _∙_}
 use mathlib.Core.List.{List}
 use mathlib.Core.Bool.{Bool, true, false, cond, not, _||_, true≢false}
-use Prim.Native.Nat.{ℕ, _+_, _*_}
+use Prim.Native.Nat.{ℕ}
 use native.Mathlib.Omega.{arith}
 use lib.ListN.{length}
 use lib.Dec.{ltb, eqb}
 use borrow.Author.Tests.{eqb-true, not-false}
 use Rattle.fields.specs.Field.{field}
-use Rattle.forms.specs.Form.{FormTold, misplaced, formNumber, formTold, refusedForm, linesOf, faultsOf, ownOf, serialsOf}
+use Rattle.forms.specs.Form.{serialsPlace, formSize, FormTold, misplaced, formNumber, formTold, refusedForm, linesOf, faultsOf, ownOf, serialsOf}
 use Rattle.forms.specs.Number.{numberOf}
 use Rattle.forms.specs.Roster.{rosterNumber}
 use Rattle.forms.specs.declared.answer.Refusal.{Refusal}
@@ -67,13 +67,13 @@ module _ (b : List ℕ) where
       go false z = (refl, z)
 
   -- a form of right layout is as long as its first byte says
-  pub placed-length : misplaced b ≡ false → length b ≡ 8 + 4 * linesOf b
+  pub placed-length : misplaced b ≡ false → length b ≡ formSize (linesOf b)
   placed-length e =
-      eqb-true (length b) (8 + 4 * linesOf b)
-      (not-false _ (or-last (ltb (length b) 8 || not (eqb (field 2 b 2) 8)) (not (eqb (length b) (8 + 4 * linesOf b))) e))
+      eqb-true (length b) (formSize (linesOf b))
+      (not-false _ (or-last (ltb (length b) serialsPlace || not (eqb (field 2 b 2) serialsPlace)) (not (eqb (length b) (formSize (linesOf b)))) e))
 
   -- so a form that is taken is, too
-  pub form-length : formNumber b ≡ 0 → length b ≡ 8 + 4 * linesOf b
+  pub form-length : formNumber b ≡ 0 → length b ≡ formSize (linesOf b)
   form-length e = placed-length (taken-parts e .0)
 
   -- and its roster has number 0

@@ -18,6 +18,10 @@ use Rattle.forms.specs.declared.form.FormRead.the-variants.{Taken, Refus
 abbrev pub serialsPlace : ℕ
 serialsPlace = 8
 
+-- the length of a form of n lines
+abbrev pub formSize : ℕ → ℕ
+formSize n = serialsPlace + 4 * n
+
 -- the fields as they lie in the bytes
 abbrev pub linesOf : List ℕ → ℕ
 linesOf b = getD b 0 0
@@ -29,11 +33,11 @@ abbrev pub ownOf : List ℕ → ℕ
 ownOf b = field 4 b 4
 
 abbrev pub serialsOf : List ℕ → List ℕ
-serialsOf b = words (linesOf b) 4 b 8
+serialsOf b = words (linesOf b) 4 b serialsPlace
 
 -- number 1: shorter than 8, offset not 8, or length not 8 + 4n
 abbrev pub misplaced : List ℕ → Bool
-misplaced b = ltb (length b) 8 || not (eqb (field 2 b 2) 8) || not (eqb (length b) (8 + 4 * linesOf b))
+misplaced b = ltb (length b) serialsPlace || not (eqb (field 2 b 2) serialsPlace) || not (eqb (length b) (formSize (linesOf b)))
 
 unfoldable pub formNumber : List ℕ → ℕ
 formNumber b = cond (misplaced b) 1 (rosterNumber (faultsOf b) (ownOf b) (serialsOf b))
@@ -101,8 +105,7 @@ writeTold number size before after =
 -- the form of a roster, written over the front of the output; bytes behind it stay
 unfoldable pub putForm : List ℕ → ℕ → ℕ → List ℕ → List ℕ
 putForm out f own serials =
-    putWords 4 (putField 4 (putField 2 (putField 1 (putField 1 out 0 (length serials)) 1 f) 2 8) 4 own) 8 serials
+    putWords 4 (putField 4 (putField 2 (putField 1 (putField 1 out 0 (length serials)) 1 f) 2 serialsPlace) 4 own) serialsPlace serials
 
 unfoldable pub formWritten : ℕ → ℕ → List ℕ → List ℕ → WriteTold
-formWritten f own serials out =
-    writeTold (rosterNumber f own serials) (8 + 4 * length serials) out (putForm out f own serials)
+formWritten f own serials out = writeTold (rosterNumber f own serials) (formSize (length serials)) out (putForm out f own serials)

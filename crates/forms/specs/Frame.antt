@@ -6,6 +6,7 @@ use mathlib.Core.Bool.{Bool, cond, not, _||_, _&&_}
 use lib.ListN.{length, getD}
 use lib.Dec.{ltb, eqb}
 use Rattle.fields.specs.Field.{field, putField}
+use Rattle.fields.specs.Kind.{INIT, ECHO}
 use Rattle.forms.specs.Form.{WriteTold, writeTold}
 use Rattle.forms.specs.Number.{numberOf}
 use Rattle.forms.specs.declared.frame.FrameRead.{FrameRead}
@@ -16,12 +17,13 @@ abbrev pub frameSize : ℕ
 frameSize = 8
 
 abbrev pub badKind : ℕ → Bool
-badKind kind = not (eqb kind 1) && not (eqb kind 2)
+badKind kind = not (eqb kind INIT) && not (eqb kind ECHO)
 
 -- 10: not 8 long, kind not 1 or 2, or bytes 1..3 not zero
 abbrev pub misshapen : List ℕ → Bool
 misshapen b =
-    not (eqb (length b) 8) || badKind (getD b 0 0) || not (eqb (getD b 1 0) 0) || not (eqb (getD b 2 0) 0) || not (eqb (getD b 3 0) 0)
+    not (eqb (length b) frameSize) || badKind (getD b 0 0)
+    || not (eqb (getD b 1 0) 0) || not (eqb (getD b 2 0) 0) || not (eqb (getD b 3 0) 0)
 
 -- 10, then 11: tick above the last tick
 unfoldable pub frameNumber : ℕ → List ℕ → ℕ
@@ -50,7 +52,7 @@ toldBy (Refused why) = refusedFrame (numberOf why)
 
 -- ---- the writer
 
--- a frame written over the 8 bytes from place i on
+-- a frame written over the bytes from place i on
 unfoldable pub putFrame : List ℕ → ℕ → ℕ → ℕ → List ℕ
 putFrame out i kind tick = putField 4 (putField 3 (putField 1 out i kind) (i + 1) 0) (i + 4) tick
 
@@ -59,4 +61,4 @@ abbrev pub frameWriteNumber : ℕ → ℕ → ℕ → ℕ
 frameWriteNumber last kind tick = cond (badKind kind) 10 (cond (ltb last tick) 11 0)
 
 unfoldable pub frameWritten : ℕ → ℕ → ℕ → List ℕ → WriteTold
-frameWritten last kind tick out = writeTold (frameWriteNumber last kind tick) 8 out (putFrame out 0 kind tick)
+frameWritten last kind tick out = writeTold (frameWriteNumber last kind tick) frameSize out (putFrame out 0 kind tick)

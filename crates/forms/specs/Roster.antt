@@ -24,7 +24,7 @@ twins (x ∷ xs) = count x xs + twins xs
 -- the first of 2 to 5 that applies, or 0
 unfoldable pub rosterNumber : ℕ → ℕ → List ℕ → ℕ
 rosterNumber f own serials =
-    cond (ltb (length serials) 1 || ltb 32 (length serials) || ltb (length serials) (3 * f + 1)) 2
+    cond (ltb (length serials) 1 || ltb mostLines (length serials) || ltb (length serials) (3 * f + 1)) 2
     (cond (ltb 0 (count 0 (own ∷ serials))) 3
     (cond (ltb 0 (twins serials)) 4
     (cond (eqb (count own serials) 0) 5

@@ -9,7 +9,10 @@ use Prim.Native.Nat.{ℕ, _+_, _*_, _<_}
 use lib.ListN.{length, getD}
 use lib.Dec.{eqb}
 use Rattle.fields.specs.Field.{field}
-use Rattle.forms.specs.Form.{linesOf, faultsOf, ownOf, serialsOf}
+use Rattle.fields.specs.Kind.{INIT, ECHO}
+use Rattle.forms.specs.Form.{serialsPlace, formSize, linesOf, faultsOf, ownOf, serialsOf}
+use Rattle.forms.specs.Frame.{frameSize}
+use Rattle.forms.specs.Roster.{mostLines}
 
 infixl 2 _or_
 infix 70 _when_
@@ -21,11 +24,11 @@ A or B = A ⊎ B
 
 -- 1: shorter than 8, offset not 8, or length not 8 + 4n
 abbrev pub Misplaced : List ℕ → Type 0
-Misplaced b = (length b < 8) or (field 2 b 2 ≢ 8) or (length b ≢ 8 + 4 * linesOf b)
+Misplaced b = (length b < serialsPlace) or (field 2 b 2 ≢ serialsPlace) or (length b ≢ formSize (linesOf b))
 
 -- 2: n not 1..32, or n < 3f + 1
 abbrev pub Beyond : ℕ → ℕ → Type 0
-Beyond n f = (n < 1) or (32 < n) or (n < 3 * f + 1)
+Beyond n f = (n < 1) or (mostLines < n) or (n < 3 * f + 1)
 
 -- 3: a serial or the own serial is 0
 abbrev pub HasZero : ℕ → List ℕ → Type 0
@@ -45,11 +48,11 @@ Stranger own serials = List·Memᴰ own serials → ⊥
 
 -- 10, of the writer: kind not 1 or 2
 abbrev pub BadKind : ℕ → Type 0
-BadKind kind = (kind ≢ 1) × (kind ≢ 2)
+BadKind kind = (kind ≢ INIT) × (kind ≢ ECHO)
 
 -- 10: not 8 long, kind not 1 or 2, or bytes 1..3 not zero
 abbrev pub Misshapen : List ℕ → Type 0
-Misshapen b = (length b ≢ 8) or BadKind (getD b 0 0) or (getD b 1 0 ≢ 0) or (getD b 2 0 ≢ 0) or (getD b 3 0 ≢ 0)
+Misshapen b = (length b ≢ frameSize) or BadKind (getD b 0 0) or (getD b 1 0 ≢ 0) or (getD b 2 0 ≢ 0) or (getD b 3 0 ≢ 0)
 
 -- ---- the first check that applies
 

@@ -2,6 +2,7 @@
 use crate::answer::Refusal;
 use crate::answer::Verdict;
 use crate::answer::Written;
+use crate::roster::MOST_LINES;
 use crate::roster::judge;
 use fields::field::half;
 use fields::field::put_half;
@@ -14,6 +15,12 @@ ghost use Rattle.fields.specs.Field.{putWords};
 ghost use Rattle.forms.specs.Form.{toldBy, formTold, serialOn, writtenBy, formWritten};
 ghost use Rattle.forms.specs.Number.{verdictOf};
 ghost use Rattle.forms.specs.Roster.{rosterNumber};
+
+// Where the serials begin. No form is shorter.
+pub const SERIALS: usize = 8;
+
+// The same, as the field of a form that states it.
+const OFFSET: u32 = SERIALS as u32;
 
 // A form that is taken: n, f and the own serial.
 pub struct Form {
@@ -30,19 +37,19 @@ pub enum FormRead {
 pub fn read_form(b: &[u8]) -> FormRead
     ensures { λ r. ⌜ toldBy r ≡ formTold (now (b .entry)) ⌝ }
 {
-    if b.len() < 8 {
+    if b.len() < SERIALS {
         return FormRead::Refused(Refusal::Layout);
     }
-    if half(b, 2) != 8 {
+    if half(b, 2) != OFFSET {
         return FormRead::Refused(Refusal::Layout);
     }
     let n = b[0] as usize;
-    if b.len() != 8 + 4 * n {
+    if b.len() != SERIALS + 4 * n {
         return FormRead::Refused(Refusal::Layout);
     }
     let f = b[1] as u32;
     let own = word(b, 4);
-    match judge(f, own, b, 8, 4, n) {
+    match judge(f, own, b, SERIALS, 4, n) {
         Verdict::Broken(why) => FormRead::Refused(why),
         Verdict::Sound => FormRead::Taken(Form {
             lines: n as u32,
@@ -60,7 +67,7 @@ pub fn read_serial(b: &[u8], line: usize) -> u32
         FormRead::Refused(_) => 0,
         FormRead::Taken(form) => {
             if line < form.lines as usize {
-                word(b, 8 + 4 * line)
+                word(b, SERIALS + 4 * line)
             } else {
                 0
             }
@@ -85,10 +92,10 @@ fn judge_list(f: u32, own: u32, serials: &[u32]) -> Verdict
     ensures { λ r. ⌜ verdictOf r ≡ rosterNumber f own (now (serials .entry)) ⌝ }
 {
     let n = serials.len();
-    if 32 < n {
+    if MOST_LINES < n {
         return Verdict::Broken(Refusal::Limits);
     }
-    let mut lines = [0u8; 128];
+    let mut lines = [0u8; MOST_LINES * 4];
     put_serials(&mut lines, 0, serials);
     judge(f, own, &lines, 0, 4, n)
 }
@@ -100,14 +107,14 @@ pub fn write_form(f: u32, own: u32, serials: &[u32], out: &mut [u8]) -> Written
         return Written::NotWritten(why);
     }
     let n = serials.len();
-    let size = 8 + 4 * n;
+    let size = SERIALS + 4 * n;
     if out.len() < size {
         return Written::NotWritten(Refusal::Room);
     }
     out[0] = n as u8;
     out[1] = f as u8;
-    put_half(out, 2, 8);
+    put_half(out, 2, OFFSET);
     put_word(out, 4, own);
-    put_serials(out, 8, serials);
+    put_serials(out, SERIALS, serials);
     Written::Wrote(size)
 }

@@ -3,13 +3,18 @@ use crate::answer::Refusal;
 use crate::answer::Written;
 use fields::field::put_word;
 use fields::field::word;
+use fields::kind::ECHO;
+use fields::kind::INIT;
 ghost use mathlib.Core.Path.{_≡_};
 ghost use Prim.Native.Nat.{_+_, _≤_, _<_};
 ghost use lib.ListN.{length};
 ghost use Rattle.forms.specs.Form.{writtenBy};
-ghost use Rattle.forms.specs.Frame.{toldBy, frameTold, putFrame, frameWritten};
+ghost use Rattle.forms.specs.Frame.{frameSize, toldBy, frameTold, putFrame, frameWritten};
 
-// A frame that is taken: kind 1 is init, kind 2 is echo.
+// Bytes of a frame.
+pub const FRAME: usize = 8;
+
+// A frame that is taken: its kind is INIT or ECHO.
 pub struct Frame {
     pub kind: u32,
     pub tick: u32,
@@ -23,11 +28,11 @@ pub enum FrameRead {
 pub fn read_frame(b: &[u8], last: u32) -> FrameRead
     ensures { λ r. ⌜ toldBy r ≡ frameTold last (now (b .entry)) ⌝ }
 {
-    if b.len() != 8 {
+    if b.len() != FRAME {
         return FrameRead::Refused(Refusal::Shape);
     }
     let kind = b[0] as u32;
-    if kind != 1 && kind != 2 {
+    if kind != INIT && kind != ECHO {
         return FrameRead::Refused(Refusal::Shape);
     }
     if b[1] != 0 || b[2] != 0 || b[3] != 0 {
@@ -40,9 +45,9 @@ pub fn read_frame(b: &[u8], last: u32) -> FrameRead
     FrameRead::Taken(Frame { kind, tick })
 }
 
-// Writes a frame over the eight bytes at i: a joint, for writers that have judged kind, tick and room.
+// Writes a frame over the bytes from i on: a joint, for writers that have judged kind, tick and room.
 pub fn put_frame(out: &mut [u8], i: usize, kind: u32, tick: u32)
-    requires { ⌜ (i + 8 ≤ length (now out)) × (kind < 256) ⌝ }
+    requires { ⌜ (i + frameSize ≤ length (now out)) × (kind < 256) ⌝ }
     ensures { λ _. ⌜ now (out .exit) ≡ putFrame (now (out .entry)) i kind tick ⌝ }
 {
     put_word(out, i, kind * 16777216);
@@ -52,15 +57,15 @@ pub fn put_frame(out: &mut [u8], i: usize, kind: u32, tick: u32)
 pub fn write_frame(kind: u32, tick: u32, last: u32, out: &mut [u8]) -> Written
     ensures { λ r. ⌜ writtenBy r (now (out .exit)) ≡ frameWritten last kind tick (now (out .entry)) ⌝ }
 {
-    if kind != 1 && kind != 2 {
+    if kind != INIT && kind != ECHO {
         return Written::NotWritten(Refusal::Shape);
     }
     if last < tick {
         return Written::NotWritten(Refusal::Late);
     }
-    if out.len() < 8 {
+    if out.len() < FRAME {
         return Written::NotWritten(Refusal::Room);
     }
     put_frame(out, 0, kind, tick);
-    Written::Wrote(8)
+    Written::Wrote(FRAME)
 }

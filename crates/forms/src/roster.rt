@@ -10,6 +10,9 @@ ghost use Rattle.fields.specs.Field.{words};
 ghost use Rattle.forms.specs.Number.{verdictOf};
 ghost use Rattle.forms.specs.Roster.{count, twins, rosterNumber};
 
+// The greatest n.
+pub const MOST_LINES: usize = 32;
+
 // How often x stands among the n words at i, i + stride, ..
 pub fn count_word(b: &[u8], i: usize, stride: usize, n: usize, x: u32) -> usize
     requires { ⌜ (4 ≤ stride) × (i + n * stride ≤ length (now b)) ⌝ }
@@ -53,7 +56,7 @@ pub fn judge(f: u32, own: u32, b: &[u8], i: usize, stride: usize, n: usize) -> V
     if n < 1 {
         return Verdict::Broken(Refusal::Limits);
     }
-    if 32 < n {
+    if MOST_LINES < n {
         return Verdict::Broken(Refusal::Limits);
     }
     if n < 3 * (f as usize) + 1 {

@@ -1,11 +1,13 @@
--- `form::judge_list` meets its contract: more than 32 serials are refused by the limits, and up to 32 words stored in 128 bytes read back.
+-- `form::judge_list` meets its contract: more serials than the limits allow are refused, and as many words as they allow read back.
 -- Assumes nothing.
 use borrow.Author.Needs.{needs}
 use mathlib.Core.Path.{sym}
+use Prim.Native.Nat.{_*_}
 use native.Mathlib.Omega.{arith}
 use denote.Ref.{now}
 use lib.ListN.{replicate}
 use lib.Dec.{lit≤}
+use Rattle.forms.specs.Roster.{mostLines}
 use Rattle.forms.proofs.Rosters.{roster-two}
 use Rattle.fields.proofs.Words.{words-putWords}
 use Rattle.forms.proofs.form.judge_list.Statement.{statement}
@@ -34,7 +36,7 @@ returns-2 c =
     rw (
       c .judge .ensures,
       c .before .before .before .put-serials .ensures,
-      words-putWords 4 (replicate 128 0) 0 serials (lit≤ tt) (omega arith) (λ k. omega (arith, known k)),
+      words-putWords 4 (replicate (mostLines * 4) 0) 0 serials (lit≤ tt) (omega arith) (λ k. omega (arith, known k)),
     )
 
 pub judge-list-spec : {M : Type 1} → statement M

@@ -8,7 +8,7 @@ use denote.Ref.{now}
 use lib.ListN.{length, getD}
 use borrow.Author.Tests.{lt-ltb, le-ltb, eq-eqb, ne-eqb}
 use Rattle.fields.specs.Field.{field}
-use Rattle.forms.specs.Form.{formNumber, formTold}
+use Rattle.forms.specs.Form.{serialsPlace, formSize, linesOf, formNumber, formTold}
 use Rattle.forms.specs.Number.{verdictOf}
 use Rattle.forms.proofs.Told.{form-refused, form-taken}
 use Rattle.forms.proofs.form.read_form.Statement.{statement}
@@ -17,7 +17,7 @@ use Rattle.forms.proofs.form.read_form.Tie as tie
 returns : tie.Need-returns
 unfolding formTold formNumber
 returns c =
-    let b = now (c .before .before .args .b) in rw (lt-ltb (length b) 8 (c .if1 .taken))
+    let b = now (c .before .before .args .b) in rw (lt-ltb (length b) serialsPlace (c .if1 .taken))
 
 half-requires : tie.Need-half-requires
 half-requires c κs = search needs
@@ -26,7 +26,7 @@ returns-2 : tie.Need-returns-2
 unfolding formTold formNumber
 returns-2 c =
     let b = now (c .before .before .before .before .args .b) in
-    rw (le-ltb (length b) 8 (c .before .before .if1 .left), ne-eqb (field 2 b 2) 8 (omega arith))
+    rw (le-ltb (length b) serialsPlace (c .before .before .if1 .left), ne-eqb (field 2 b 2) serialsPlace (omega arith))
 
 shared-slice-read-n : tie.Need-shared-slice-read-n
 shared-slice-read-n c = search needs
@@ -45,9 +45,9 @@ unfolding formTold formNumber
 returns-3 c =
     let b = now (c .before .before .before .before .before .before .args .b) in
     rw (
-      le-ltb (length b) 8 (c .before .before .before .before .if1 .left),
-      eq-eqb (field 2 b 2) 8 (omega arith),
-      ne-eqb (length b) (8 + 4 * getD b 0 0) (c .if3 .taken),
+      le-ltb (length b) serialsPlace (c .before .before .before .before .if1 .left),
+      eq-eqb (field 2 b 2) serialsPlace (omega arith),
+      ne-eqb (length b) (formSize (linesOf b)) (c .if3 .taken),
     )
 
 shared-slice-read-f : tie.Need-shared-slice-read-f
@@ -77,9 +77,9 @@ unfolding formNumber
 number c =
     let b = now (c .before .before .before .before .before .before .before .before .before .args .b) in
     rw (
-      le-ltb (length b) 8 (c .before .before .before .before .before .before .before .if1 .left),
-      eq-eqb (field 2 b 2) 8 (omega arith),
-      eq-eqb (length b) (8 + 4 * getD b 0 0) (c .before .before .before .if3 .left),
+      le-ltb (length b) serialsPlace (c .before .before .before .before .before .before .before .if1 .left),
+      eq-eqb (field 2 b 2) serialsPlace (omega arith),
+      eq-eqb (length b) (formSize (linesOf b)) (c .before .before .before .if3 .left),
       ← c .before .word .ensures,
       ← c .judge .ensures,
     )

@@ -7,7 +7,7 @@ use native.Mathlib.Omega.{arith}
 use denote.Ref.{now}
 use lib.ListN.{List·getD-eq-default}
 use Rattle.fields.specs.Field.{field}
-use Rattle.forms.specs.Form.{toldBy, formNumber, serialOn, serialsOf, linesOf}
+use Rattle.forms.specs.Form.{serialsPlace, toldBy, formNumber, serialOn, serialsOf, linesOf}
 use Rattle.fields.proofs.Words.{length-words, getD-words}
 use Rattle.forms.proofs.Told.{refusal, told-refused, told-taken, form-length}
 use Rattle.forms.proofs.form.read_serial.Statement.{statement}
@@ -56,8 +56,8 @@ returns-2 c =
     let a = c .before .before .before .before .before .before .before .before .args in
     let b = now (a .b) in
     let t = taken (c .before .before) in
-    let place : 8 + 4 * a .line ≡ 8 + a .line * 4 = omega arith in
-    rw (t .0) (c .word .ensures ∙ ap (field 4 b) place ∙ sym (getD-words (linesOf b) 4 b 8 (a .line) (omega (arith, t .1))))
+    let place : serialsPlace + 4 * a .line ≡ serialsPlace + a .line * 4 = omega arith in
+    rw (t .0) (c .word .ensures ∙ ap (field 4 b) place ∙ sym (getD-words (linesOf b) 4 b serialsPlace (a .line) (omega (arith, t .1))))
 
 returns-3 : tie.Need-returns-3
 unfolding serialOn
@@ -65,7 +65,7 @@ returns-3 c =
     let a = c .before .before .before .before .before .before .before .args in
     let b = now (a .b) in
     let t = taken (c .before) in
-    rw (t .0) (sym (List·getD-eq-default (serialsOf b) 0 (omega (arith, t .1, length-words (linesOf b) 4 b 8))))
+    rw (t .0) (sym (List·getD-eq-default (serialsOf b) 0 (omega (arith, t .1, length-words (linesOf b) 4 b serialsPlace))))
 
 pub read-serial-spec : {M : Type 1} → statement M
 read-serial-spec =

@@ -10,7 +10,7 @@ use denote.Ref.{now}
 use lib.ListN.{length, set, length-set}
 use borrow.Author.Tests.{lt-ltb, le-ltb}
 use Rattle.fields.specs.Field.{putField, putWords}
-use Rattle.forms.specs.Form.{formWritten, putForm}
+use Rattle.forms.specs.Form.{serialsPlace, formSize, formWritten, putForm}
 use Rattle.forms.specs.Number.{verdictOf}
 use Rattle.forms.specs.Roster.{rosterNumber}
 use Rattle.forms.proofs.Rosters.{Limits, roster-limits}
@@ -20,7 +20,8 @@ use Rattle.forms.proofs.form.write_form.Statement.{statement}
 use Rattle.forms.proofs.form.write_form.Tie as tie
 
 -- the stores of the body, one after the other, are the form
-laid : (out : List ℕ) (f own : ℕ) (serials : List ℕ) → Limits f (length serials) → putWords 4 (putField 4 (putField 2 (set (set out 0 (length serials)) 1 f) 2 8) 4 own) 8 serials ≡ putForm out f own serials
+laid : (out : List ℕ) (f own : ℕ) (serials : List ℕ) → Limits f (length serials) →
+    putWords 4 (putField 4 (putField 2 (set (set out 0 (length serials)) 1 f) 2 serialsPlace) 4 own) serialsPlace serials ≡ putForm out f own serials
 unfolding putForm
 laid out f own serials l =
     rw (put-byte out 0 (length serials) (omega arith), put-byte (set out 0 (length serials)) 1 f (omega arith))
@@ -54,7 +55,7 @@ returns-2 : tie.Need-returns-2
 unfolding formWritten
 returns-2 c =
     let a = c .before .before .before .before .before .before .args in
-    rw (sound (c .before), lt-ltb (length (now (a .out))) (8 + 4 * length (now (a .serials))) (c .if1 .taken))
+    rw (sound (c .before), lt-ltb (length (now (a .out))) (formSize (length (now (a .serials)))) (c .if1 .taken))
 
 -- so n and f are within the limits
 bounds : (c : tie.After-enum-told) → let a = c .before .before .before .before .before .args in Limits (a .f) (length (now (a .serials)))
@@ -95,7 +96,7 @@ returns-3 c =
     let serials = now (a .serials) in
     rw (
       sound (c .before .before .before .before .before .before .before .before .before .before .before .before .before),
-      le-ltb (length (now (a .out))) (8 + 4 * length serials) (c .before .before .before .before .before .before .before .before .before .before .before .before .if1 .left),
+      le-ltb (length (now (a .out))) (formSize (length serials)) (c .before .before .before .before .before .before .before .before .before .before .before .before .if1 .left),
       c .before .before .put-serials .ensures,
       c .before .before .before .before .before .before .put-word .ensures,
       c .before .before .before .before .before .before .before .before .before .before .put-half .ensures,

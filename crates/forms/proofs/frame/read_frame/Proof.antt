@@ -10,14 +10,15 @@ use lib.ListN.{length, getD}
 use lib.Dec.{eqb}
 use borrow.Author.Tests.{ne-eqb, eq-eqb, lt-ltb, le-ltb}
 use Rattle.fields.specs.Field.{field}
-use Rattle.forms.specs.Frame.{badKind, misshapen, frameTold, frameNumber}
+use Rattle.fields.specs.Kind.{INIT, ECHO}
+use Rattle.forms.specs.Frame.{frameSize, badKind, misshapen, frameTold, frameNumber}
 use Rattle.forms.proofs.Frames.{echo-test, known-kind}
 use Rattle.forms.proofs.frame.read_frame.Statement.{statement}
 use Rattle.forms.proofs.frame.read_frame.Tie as tie
 
 returns : tie.Need-returns
 unfolding frameTold frameNumber
-returns c = let b = now (c .before .before .args .b) in rw (ne-eqb (length b) 8 (c .if1 .taken))
+returns c = let b = now (c .before .before .args .b) in rw (ne-eqb (length b) frameSize (c .if1 .taken))
 
 shared-slice-read-kind : tie.Need-shared-slice-read-kind
 shared-slice-read-kind c = search needs
@@ -29,8 +30,8 @@ returns-2 : tie.Need-returns-2
 unfolding frameTold frameNumber
 returns-2 c =
     let b = now (c .before .before .before .before .before .args .b) in
-    let not-echo : not (eqb (getD b 0 0) 2) ≡ true = c .if3 .taken in
-    rw (eq-eqb (length b) 8 (c .before .before .before .if1 .left), ne-eqb (getD b 0 0) 1 (c .before .if2 .taken), not-echo)
+    let not-echo : not (eqb (getD b 0 0) ECHO) ≡ true = c .if3 .taken in
+    rw (eq-eqb (length b) frameSize (c .before .before .before .if1 .left), ne-eqb (getD b 0 0) INIT (c .before .if2 .taken), not-echo)
 
 shared-slice-read-if4 : tie.Need-shared-slice-read-if4
 shared-slice-read-if4 c = search needs
@@ -51,7 +52,7 @@ returns-3 : tie.Need-returns-3
 unfolding frameTold frameNumber
 returns-3 c =
     let b = now (c .before .before .before .before .before .before .args .b) in
-    rw (eq-eqb (length b) 8 (c .before .before .before .before .if1 .left), kind (c .before .before))
+    rw (eq-eqb (length b) frameSize (c .before .before .before .before .if1 .left), kind (c .before .before))
     (⊎-elim (λ w. rw (ne-eqb (getD b 1 0) 0 (w .taken)))
     (⊎-elim (λ w. let flag : not (eqb (getD b 2 0) 0) ≡ true = w .2 .taken in rw (eq-eqb (getD b 1 0) 0 (w .0 .left), flag))
     (λ w.
@@ -70,7 +71,7 @@ shaped c =
     let flag₂ : not (eqb (getD b 2 0) 0) ≡ false = c .before .before .if5 .left in
     let flag₃ : not (eqb (getD b 3 0) 0) ≡ false = c .if6 .left in
     rw (
-      eq-eqb (length b) 8 (c .before .before .before .before .before .before .before .before .if1 .left),
+      eq-eqb (length b) frameSize (c .before .before .before .before .before .before .before .before .if1 .left),
       kind (c .before .before .before .before .before .before),
       eq-eqb (getD b 1 0) 0 (c .before .before .before .before .if4 .left),
       flag₂,

@@ -9,7 +9,8 @@ use denote.Ref.{now}
 use lib.ListN.{length}
 use lib.Dec.{eqb}
 use borrow.Author.Tests.{ne-eqb, lt-ltb, le-ltb}
-use Rattle.forms.specs.Frame.{frameWritten, putFrame}
+use Rattle.fields.specs.Kind.{INIT, ECHO}
+use Rattle.forms.specs.Frame.{frameSize, frameWritten, putFrame}
 use Rattle.forms.proofs.Frames.{echo-test, known-kind}
 use Rattle.forms.proofs.frame.write_frame.Statement.{statement}
 use Rattle.forms.proofs.frame.write_frame.Tie as tie
@@ -18,11 +19,11 @@ returns : tie.Need-returns
 unfolding frameWritten
 returns c =
     let a = c .before .before .before .args in
-    let not-echo : not (eqb (a .kind) 2) ≡ true = c .if2 .taken in
-    rw (ne-eqb (a .kind) 1 (c .before .if1 .taken), not-echo)
+    let not-echo : not (eqb (a .kind) ECHO) ≡ true = c .if2 .taken in
+    rw (ne-eqb (a .kind) INIT (c .before .if1 .taken), not-echo)
 
 -- past the test of the kind it is init or echo
-kind : (c : tie.Joined1) → (c .before .before .args .kind ≡ 1) ⊎ (c .before .before .args .kind ≡ 2)
+kind : (c : tie.Joined1) → (c .before .before .args .kind ≡ INIT) ⊎ (c .before .before .args .kind ≡ ECHO)
 kind c = ⊎-elim (λ w. inr (echo-test (c .before .before .args .kind) (w .1 .left))) (λ w. inl (w .left)) (c .if1 .came)
 
 returns-2 : tie.Need-returns-2
@@ -38,7 +39,7 @@ returns-3 c =
     rw (
       known-kind (a .kind) (kind (c .before .before)),
       le-ltb (a .last) (a .tick) (c .before .if3 .left),
-      lt-ltb (length (now (a .out))) 8 (c .if4 .taken),
+      lt-ltb (length (now (a .out))) frameSize (c .if4 .taken),
     )
 
 put-frame-requires : tie.Need-put-frame-requires
@@ -55,7 +56,7 @@ returns-4 c =
     rw (
       known-kind (a .kind) (kind (c .before .before .before .before .before .before)),
       le-ltb (a .last) (a .tick) (c .before .before .before .before .before .if3 .left),
-      le-ltb (length (now (a .out))) 8 (c .before .before .before .before .if4 .left),
+      le-ltb (length (now (a .out))) frameSize (c .before .before .before .before .if4 .left),
       put,
     )
 

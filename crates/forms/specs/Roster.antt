@@ -1,7 +1,7 @@
 -- The roster: a fault number f, the own serial and a list of serials, and the numbers 2 to 5 that judge it (01, "Numbers
 -- given back"). The form reader, the form writer and the image of a node are judged by this one definition. It looks at the
 -- list through counts alone, so the order of lines decides nothing: all zeros come before any twin.
-use Prim.Native.Nat.{ℕ, _+_, _*_}
+use Prim.Native.Nat.{ℕ, _+_, _*_, _≤_}
 use mathlib.Core.List.{List, [], _∷_}
 use mathlib.Core.Bool.{cond, _||_}
 use lib.ListN.{length}
@@ -29,3 +29,11 @@ rosterNumber f own serials =
     (cond (ltb 0 (twins serials)) 4
     (cond (eqb (count own serials) 0) 5
     0)))
+
+-- ---- a column of serials in bytes
+
+-- what the search for twins asks of its caller: whole words, no more than the limit, inside the bytes
+pub record Column (b : List ℕ) (i stride n : ℕ) : Type 0 where
+  pub whole : 4 ≤ stride
+  pub few : n ≤ mostLines
+  pub inside : i + n * stride ≤ length b

@@ -8,7 +8,7 @@ ghost use Prim.Native.Nat.{_+_, _*_, _≤_};
 ghost use lib.ListN.{length};
 ghost use Rattle.fields.specs.Field.{words};
 ghost use Rattle.forms.specs.Number.{verdictOf};
-ghost use Rattle.forms.specs.Roster.{count, twins, rosterNumber};
+ghost use Rattle.forms.specs.Roster.{count, twins, rosterNumber, Column};
 
 // The greatest n.
 pub const MOST_LINES: usize = 32;
@@ -32,8 +32,8 @@ pub fn count_word(b: &[u8], i: usize, stride: usize, n: usize, x: u32) -> usize
 }
 
 // How many pairs of the n words at i, i + stride, .. are the same serial.
-pub fn count_twins(b: &[u8], i: usize, stride: usize, n: usize) -> usize
-    requires { ⌜ (4 ≤ stride) × (n ≤ 32) × (i + n * stride ≤ length (now b)) ⌝ }
+fn count_twins(b: &[u8], i: usize, stride: usize, n: usize) -> usize
+    requires { ⌜ Column (now b) i stride n ⌝ }
     ensures { λ r. ⌜ r ≡ twins (words n stride (now (b .entry)) i) ⌝ }
 {
     let mut found: usize = 0;

@@ -11,12 +11,12 @@ use lib.ListN.{length, getD, take}
 use lib.Dec.{ltb, eqb, lit<, lit≤}
 use lib.Seq.{getD-take}
 use Rattle.fields.specs.Field.{field, words, Bytes}
-use Rattle.forms.specs.Form.{linesOf, faultsOf, ownOf, serialsOf, formNumber}
+use Rattle.forms.specs.Form.{linesOf, Reordered, formNumber}
 use Rattle.forms.specs.Frame.{frameNumber}
 use Rattle.forms.specs.Number.{orElse}
 use Rattle.forms.specs.Roster.{count}
 use Rattle.fields.proofs.Fields.{field-same}
-use Rattle.forms.proofs.Order.{count-order, form-number-order}
+use Rattle.forms.proofs.Order.{count-order, byte-same, front-same, form-number-order, serials-order}
 use Rattle.evidence.specs.Rows.{Row, rowSize, rowsAt}
 use Rattle.evidence.proofs.Encoded.{bytes-putRows}
 use Rattle.evidence.proofs.Layouts.{serials-of-rows}
@@ -24,12 +24,13 @@ use Rattle.node.specs.After.{Begins, Follows}
 use Rattle.node.specs.Calls.{Outcome, Reading, bootNumber, freshState, booted, deliverNumber, deliveryOf, imageAfter, deliverOutcome, readNumber, reading}
 use Rattle.rules.specs.Delivery.{State, Delivered, delivered}
 use Rattle.rules.specs.Describe.{room, freshNode, freshRows}
-use Rattle.node.specs.Image.{Layout, imageSize, nodeOf, rowsOf, stateOf, soundImage, putState}
+use Rattle.node.specs.Image.{Layout, imageSize, nodeOf, rowsOf, rosterIn, stateOf, soundImage, putState}
 use Rattle.rules.specs.Record.{Outgoing, putRecords}
 use Rattle.node.specs.Runs.{Call, Deliver, Read, under, Seen, seenBy, seenIn, Called, called, observed, life}
 use Rattle.rules.specs.declared.node.Node.{Node}
 use Rattle.node.proofs.Images.{bytes-putClock, bytes-putState}
 use Rattle.node.proofs.Orderly.{delivery-order, under-order}
+use Rattle.node.proofs.Taken.{boot-taken}
 use Rattle.node.proofs.SoundImages.{Works, delivery-sound, deliver-done, deliver-refused, boot-sound, boot-done, boot-refused}
 
 -- ---- two images that a truck cannot tell apart
@@ -48,7 +49,7 @@ pub data Alike (L : Layout) (last : ℕ) (a b : List ℕ) : Type 0 where
   paired : Pair L last a b → Alike L last a b
 
 module _ (L : Layout) (last : ℕ) (a b : List ℕ) (h : Pair L last a b) where
-  serials : List·Permᴰ (words (getD a 0 0) (rowSize (L .masks)) a 32) (words (getD b 0 0) (rowSize (L .masks)) b 32)
+  serials : List·Permᴰ (rosterIn L a) (rosterIn L b)
   serials =
       subst₂ (λ (x y : List ℕ). List·Permᴰ x y) (serials-of-rows (L .masks) (getD a 0 0) a 32) (serials-of-rows (L .masks) (getD b 0 0) b 32)
       (Permᴰ·map (λ (row : Row). row .serial) (h .rows))
@@ -172,26 +173,19 @@ module _ (L : Layout) (last : ℕ) (works : Works L) (small : last < 2 ^ 32) whe
 -- ---- a whole life
 
 -- two forms alike in all but the order of their serial lines
-pub record Reordered (b c : List ℕ) : Type 0 where
-  pub size : length b ≡ length c
-  pub front : take 8 b ≡ take 8 c
-  pub lines : List·Permᴰ (serialsOf b) (serialsOf c)
-
 module _ (b c : List ℕ) (r : Reordered b c) where
-  byte : (k : ℕ) → k < 8 → getD b k 0 ≡ getD c k 0
-  byte k p = sym (getD-take 8 b k 0 p) ∙ ap (λ (l : List ℕ). getD l k 0) (r .front) ∙ getD-take 8 c k 0 p
-
-  own-same : ownOf b ≡ ownOf c
-  own-same = field-same 4 b c 4 4 (λ k p. byte (4 + k) (omega arith))
-
   boot-number : (L : Layout) (m n : ℕ) → bootNumber L b m n ≡ bootNumber L c m n
   unfolding bootNumber
   boot-number L m n =
-      ap₂ (λ (x y : ℕ). orElse x (cond (ltb m (imageSize L y)) 6 (cond (ltb n room) 7 0))) (form-number-order b c (r .size) (r .front) (r .lines)) (byte 0 (lit< tt))
+      ap₂ (λ (x y : ℕ). orElse x (cond (ltb m (imageSize L y)) 6 (cond (ltb n room) 7 0))) (form-number-order r) (byte-same r 0 (lit< tt))
 
-  fresh-matched : Matched (freshState b) (freshState c)
+  fresh-matched : formNumber b ≡ 0 → Matched (freshState b) (freshState c)
   unfolding freshState freshRows
-  fresh-matched = record { node = λ d. freshNode (byte 0 (lit< tt) d) (byte 1 (lit< tt) d) (own-same d); rows = Permᴰ·map _ (r .lines) }
+  fresh-matched e =
+      record {
+        node = λ d. freshNode (byte-same r 0 (lit< tt) d) (byte-same r 1 (lit< tt) d) (front-same r 4 4 (lit≤ tt) d);
+        rows = Permᴰ·map _ (serials-order r e);
+      }
 
   boot-met : (L : Layout) (last : ℕ) → Works L → last < 2 ^ 32 → (image out : List ℕ) → Bytes b → Bytes c → Bytes image → Met L last (booted L b image out) (booted L c image out)
   boot-met L last works small image out u v i = go (ℕ-discrete (bootNumber L b (length image) (length out)) 0)
@@ -209,7 +203,7 @@ module _ (b c : List ℕ) (r : Reordered b c) where
             number = refl;
             records = refl;
             out = refl;
-            image = pair-of L last works small _ _ _ _ (x .sound) (y .sound) (bytes-putState L image (freshState b) i) (bytes-putState L image (freshState c) i) (x .state) (y .state) fresh-matched;
+            image = pair-of L last works small _ _ _ _ (x .sound) (y .sound) (bytes-putState L image (freshState b) i) (bytes-putState L image (freshState c) i) (x .state) (y .state) (fresh-matched (boot-taken L b (length image) (length out) e .roster));
           })
       go (no n) =
           subst₂ (Met L last) (sym (boot-refused L b image out n)) (sym (boot-refused L c image out (λ e. n (number ∙ e))))

@@ -16,7 +16,7 @@ use Rattle.forms.specs.Form.{linesOf, formNumber}
 use Rattle.forms.specs.Frame.{frameNumber}
 use Rattle.forms.specs.Roster.{count}
 use Rattle.forms.specs.Table.{Check, Given, Says}
-use Rattle.forms.proofs.Meaning.{Decides, less, equal, opposite, in-front, none, form-then, frame-says, frame-told, member-says}
+use Rattle.forms.proofs.Meaning.{Decides, less, equal, opposite, in-front, none, form-then, frame-says, frame-told, absent, told}
 use Rattle.evidence.specs.Rows.{rowSize}
 use Rattle.node.specs.Calls.{Outcome, refused, outcome, Reading, bootNumber, booted, deliverNumber, deliverOutcome, readNumber, unread, reading}
 use Rattle.rules.specs.Describe.{room}
@@ -25,11 +25,7 @@ use Rattle.node.specs.Table.{bootChecks, deliverChecks, readChecks}
 
 -- the number that an outcome tells is the number that decides it
 decides : (number : ℕ) (image out : List ℕ) (done : Outcome) → done .number ≡ 0 → outcome number image out done .number ≡ number
-decides number image out done e = go (eqb number 0) refl
-  where
-    go : (t : Bool) → eqb number 0 ≡ t → (cond t done (refused number image out)) .number ≡ number
-    go true f = e ∙ sym (eqb-true number 0 f)
-    go false f = refl
+decides number image out done e = told (λ (o : Outcome). o .number) done (refused number image out) number e refl
 
 -- ---- boot: 1 to 5 of the form, 6, 7
 
@@ -57,9 +53,6 @@ swap : (t : Bool) (a b : ℕ) → cond t a b ≡ cond (not t) b a
 swap true a b = refl
 swap false a b = refl
 
-unlisted : (port : ℕ) (l : List ℕ) → Decides (eqb (count port l) 0) (List·Memᴰ port l → ⊥)
-unlisted port l = Iff·trans (equal (count port l) 0) (λ e m. omega (arith, member-says port l .1 m), λ n. elim (decLt 0 (count port l)) [ yes p ↦ absurd (n (member-says port l .0 p)) | no q ↦ omega arith ])
-
 pub deliver-says : (L : Layout) (last : ℕ) (image : List ℕ) (port : ℕ) (frame out : List ℕ) → Says (deliverOutcome L last image port frame out .number) (deliverChecks L last image port frame out)
 unfolding deliverNumber
 deliver-says L last image port frame out =
@@ -67,17 +60,13 @@ deliver-says L last image port frame out =
     (in-front 7 (less (length out) room) (omega arith)
     (rw (swap (soundImage L last image))
     (in-front 8 (opposite (soundImage L last image) (is-true (soundImage L last image))) (omega arith)
-    (in-front 9 (unlisted port (rosterIn L image)) (omega arith) (rw (frame-told last frame) at (frame-says last frame))))))
+    (in-front 9 (absent port (rosterIn L image)) (omega arith) (rw (frame-told last frame) at (frame-says last frame))))))
 
 -- ---- read: 8, 12
 
 pub read-told : (L : Layout) (last : ℕ) (image : List ℕ) → reading L last image .number ≡ readNumber L last image
 unfolding reading
-read-told L last image = go (eqb (readNumber L last image) 0) refl
-  where
-    go : (t : Bool) → eqb (readNumber L last image) 0 ≡ t → (cond {A = Reading} t (record { number = 0; clock = field 4 image 8 }) (record { number = readNumber L last image; clock = 0 })) .number ≡ readNumber L last image
-    go true e = sym (eqb-true (readNumber L last image) 0 e)
-    go false e = refl
+read-told L last image = told (λ (r : Reading). r .number) _ (unread (readNumber L last image)) (readNumber L last image) refl refl
 
 pub read-says : (L : Layout) (last : ℕ) (image : List ℕ) → Says (reading L last image .number) (readChecks L last image)
 unfolding readNumber

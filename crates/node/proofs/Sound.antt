@@ -12,7 +12,7 @@ use borrow.Author.Tests.{ltb-false, le-ltb, leb-true, le-leb, eqb-true, eq-eqb, 
 use Rattle.fields.specs.Field.{field, words}
 use Rattle.forms.specs.Roster.{count, twins, rosterNumber}
 use Rattle.forms.proofs.Meaning.{roster-says, twice-says}
-use Rattle.forms.proofs.Rosters.{Limits, roster-limits}
+use Rattle.forms.proofs.Rosters.{Limits, roster-limits, roster-twins, count-once}
 use Rattle.fields.proofs.Words.{length-words}
 use Rattle.evidence.specs.Rows.{Row, rowSize, rowsAt, properRows}
 use Rattle.evidence.proofs.Layouts.{serials-of-rows}
@@ -86,20 +86,6 @@ pub rows-inside : (L : Layout) (b : List ℕ) → fixedHeader L b ≡ true → f
 rows-inside L b e p = subst (λ (n : ℕ). n ≤ length b) (fixed-facts L b e .size) p
 
 -- ---- a roster in order
-
--- no serial stands twice
-pub roster-twins : (f own : ℕ) (serials : List ℕ) → rosterNumber f own serials ≡ 0 → twins serials ≡ 0
-roster-twins f own serials z =
-    elim (decLt 0 (twins serials)) [ yes p ↦ absurd (roster-says f own serials .exactly 0 .0 z .1 .1 .0 (twice-says serials .0 p)) | no q ↦ omega arith ]
-
-pub count-once : (x : ℕ) (l : List ℕ) → twins l ≡ 0 → count x l ≤ 1
-unfolding count twins
-count-once x [] e = omega arith
-count-once x (y ∷ l) e = go (eqb y x) refl (count-once x l (omega arith))
-  where
-    go : (t : Bool) → eqb y x ≡ t → count x l ≤ 1 → cond t 1 0 + count x l ≤ 1
-    go true q below = omega (arith, ap (λ (z : ℕ). count z l) (eqb-true y x q))
-    go false q below = omega arith
 
 -- f and n are within the limits
 pub roster-lines : (f own n s : ℕ) (b : List ℕ) (i : ℕ) → rosterNumber f own (words n s b i) ≡ 0 → Limits f n

@@ -14,6 +14,7 @@ use native.Mathlib.Nat.{one-le-pow}
 use Rattle.forms.specs.Form.{misplaced, linesOf, faultsOf, ownOf, serialsOf, formNumber}
 use Rattle.forms.specs.Number.{orElse}
 use Rattle.forms.specs.Roster.{rosterNumber}
+use Rattle.forms.proofs.Told.{form-roster}
 use Rattle.fields.proofs.Fields.{field-lt}
 use Rattle.fields.proofs.Words.{Words, length-words, words-words}
 use Rattle.sets.specs.Ticks.{empty}
@@ -31,7 +32,7 @@ use Rattle.node.proofs.Fresh.{fresh-serials, fresh-length, fresh-sound}
 use Rattle.node.proofs.Images.{fixed-facts, Fine, NodeFits, state-after, fixed-after, length-after, node-after, state-read-back, fixed-of-state, length-putState}
 use Rattle.node.proofs.Sound.{SoundNode, SoundBytes, sound-bytes, bytes-sound, rows-inside}
 use Rattle.node.proofs.Stays.{Sound, Ordered, Below, sound-facts, sound-test, sound-after, ordered-after, rest-after, records-few, records-below}
-use Rattle.node.proofs.Taken.{Taken, deliver-taken, WholeFrame, frame-whole}
+use Rattle.node.proofs.Taken.{Started, boot-taken, Taken, deliver-taken, WholeFrame, frame-whole}
 
 -- a layout that works: its numbers fit, and its window fits a mask of its bytes
 pub record Works (L : Layout) : Type 0 where
@@ -236,31 +237,6 @@ module _
       (sound L last works small image port frame outLength bytes ok) (late L last works small image port frame outLength bytes ok)
 
 -- ---- boot
-
--- what an accepted boot has been asked
-pub record Started (L : Layout) (form : List ℕ) (imageLength outLength : ℕ) : Type 0 where
-  pub roster : formNumber form ≡ 0
-  pub image : imageSize L (linesOf form) ≤ imageLength
-  pub out : 192 ≤ outLength
-
-boot-taken : (L : Layout) (form : List ℕ) (imageLength outLength : ℕ) → bootNumber L form imageLength outLength ≡ 0 → Started L form imageLength outLength
-unfolding bootNumber
-boot-taken L form imageLength outLength e = go (formNumber form) refl (ltb imageLength (imageSize L (linesOf form))) refl (ltb outLength 192) refl e
-  where
-    go : (n : ℕ) → formNumber form ≡ n → (a : Bool) → ltb imageLength (imageSize L (linesOf form)) ≡ a → (b : Bool) → ltb outLength 192 ≡ b → orElse n (cond a 6 (cond b 7 0)) ≡ 0 → Started L form imageLength outLength
-    go (suc n) f a p b q r = absurd (omega arith)
-    go zero f true p b q r = absurd (omega arith)
-    go zero f false p true q r = absurd (omega arith)
-    go zero f false p false q r = record { roster = f; image = ltb-false imageLength (imageSize L (linesOf form)) p; out = ltb-false outLength 192 q }
-
--- a form that is taken has a roster that is
-form-roster : (form : List ℕ) → formNumber form ≡ 0 → rosterNumber (faultsOf form) (ownOf form) (serialsOf form) ≡ 0
-unfolding formNumber
-form-roster form e = go (misplaced form) e
-  where
-    go : (t : Bool) → cond t 1 (rosterNumber (faultsOf form) (ownOf form) (serialsOf form)) ≡ 0 → rosterNumber (faultsOf form) (ownOf form) (serialsOf form) ≡ 0
-    go true f = absurd (omega arith)
-    go false f = f
 
 fresh-fits : (mb : ℕ) (serials : List ℕ) → Words serials → RowsFit mb (freshRows serials)
 unfolding freshRows

@@ -22,10 +22,10 @@ use Rattle.forms.specs.declared.form.FormRead.{FormRead}
 use Rattle.forms.specs.declared.form.FormRead.the-variants.{Taken as TakenForm}
 use Rattle.forms.proofs.Meaning.{frame-told, frame-says}
 use Rattle.forms.proofs.Rosters.{Limits}
-use Rattle.forms.proofs.Told.{refusal, told-taken, form-taken}
-use Rattle.evidence.specs.Rows.{rowSize}
+use Rattle.forms.proofs.Told.{refusal, told-taken, form-taken, form-roster}
+use Rattle.rules.specs.Describe.{room as asked}
 use Rattle.node.specs.Calls.{bootNumber, deliverNumber}
-use Rattle.node.specs.Image.{Layout, soundImage}
+use Rattle.node.specs.Image.{Layout, imageSize, rosterIn, soundImage}
 use Rattle.node.proofs.Sound.{roster-lines}
 
 -- ---- a form
@@ -36,9 +36,9 @@ else-first zero next e = absurd (eqb-false 0 0 e refl)
 else-first (suc n) next e = refl
 
 -- what refuses the form refuses boot
-pub boot-refused : (L : Layout) (form : List ℕ) (imageLength outLength : ℕ) (why : Refusal) → formNumber form ≡ numberOf why → bootNumber L form imageLength outLength ≡ numberOf why
+pub form-refuses : (L : Layout) (form : List ℕ) (imageLength outLength : ℕ) (why : Refusal) → formNumber form ≡ numberOf why → bootNumber L form imageLength outLength ≡ numberOf why
 unfolding bootNumber
-boot-refused L form imageLength outLength why e = rw e (else-first (numberOf why) _ (refusal why))
+form-refuses L form imageLength outLength why e = rw e (else-first (numberOf why) _ (refusal why))
 
 module _ (b : List ℕ) where
   -- the fields that the reader told are the form's own
@@ -49,16 +49,26 @@ module _ (b : List ℕ) where
       let z = told-taken b (form .lines) (form .faults) (form .own) said .0 in
       (z, ap (λ (t : FormTold). record { lines = t .lines; faults = t .faults; own = t .own }) (said ∙ form-taken b z))
 
-  form-roster : formNumber b ≡ 0 → rosterNumber (faultsOf b) (ownOf b) (serialsOf b) ≡ 0
-  unfolding formNumber
-  form-roster z = go (misplaced b) z
-    where
-      go : (t : Bool) → cond t 1 (rosterNumber (faultsOf b) (ownOf b) (serialsOf b)) ≡ 0 → rosterNumber (faultsOf b) (ownOf b) (serialsOf b) ≡ 0
-      go true e = absurd (omega arith)
-      go false e = e
-
   pub form-limits : formNumber b ≡ 0 → Limits (faultsOf b) (linesOf b)
-  form-limits z = roster-lines (faultsOf b) (ownOf b) (linesOf b) 4 b 8 (form-roster z)
+  form-limits z = roster-lines (faultsOf b) (ownOf b) (linesOf b) 4 b 8 (form-roster b z)
+
+-- ---- boot
+
+-- what an accepted boot has been asked
+pub record Started (L : Layout) (form : List ℕ) (imageLength outLength : ℕ) : Type 0 where
+  pub roster : formNumber form ≡ 0
+  pub image : imageSize L (linesOf form) ≤ imageLength
+  pub out : asked ≤ outLength
+
+pub boot-taken : (L : Layout) (form : List ℕ) (imageLength outLength : ℕ) → bootNumber L form imageLength outLength ≡ 0 → Started L form imageLength outLength
+unfolding bootNumber
+boot-taken L form imageLength outLength e = go (formNumber form) refl (ltb imageLength (imageSize L (linesOf form))) refl (ltb outLength asked) refl e
+  where
+    go : (n : ℕ) → formNumber form ≡ n → (a : Bool) → ltb imageLength (imageSize L (linesOf form)) ≡ a → (b : Bool) → ltb outLength asked ≡ b → orElse n (cond a 6 (cond b 7 0)) ≡ 0 → Started L form imageLength outLength
+    go (suc n) f a p b q r = absurd (omega arith)
+    go zero f true p b q r = absurd (omega arith)
+    go zero f false p true q r = absurd (omega arith)
+    go zero f false p false q r = record { roster = f; image = ltb-false imageLength (imageSize L (linesOf form)) p; out = ltb-false outLength asked q }
 
 -- ---- a frame and a delivery
 
@@ -78,20 +88,20 @@ frame-whole last b z =
     }
 
 pub record Taken (L : Layout) (last : ℕ) (image : List ℕ) (port : ℕ) (frame : List ℕ) (outLength : ℕ) : Type 0 where
-  pub room : 192 ≤ outLength
+  pub room : asked ≤ outLength
   pub sound : soundImage L last image ≡ true
-  pub listed : count port (words (getD image 0 0) (rowSize (L .masks)) image 32) ≡ 0 → ⊥
+  pub listed : count port (rosterIn L image) ≡ 0 → ⊥
   pub shape : frameNumber last frame ≡ 0
 
 pub deliver-taken : (L : Layout) (last : ℕ) (image : List ℕ) (port : ℕ) (frame : List ℕ) (outLength : ℕ) →
     deliverNumber L last image port frame outLength ≡ 0 → Taken L last image port frame outLength
 unfolding deliverNumber
 deliver-taken L last image port frame outLength z =
-    go (ltb outLength 192) refl (soundImage L last image) refl (eqb (count port (words (getD image 0 0) (rowSize (L .masks)) image 32)) 0) refl z
+    go (ltb outLength asked) refl (soundImage L last image) refl (eqb (count port (rosterIn L image)) 0) refl z
   where
-    go : (r : Bool) → ltb outLength 192 ≡ r → (s : Bool) → soundImage L last image ≡ s → (t : Bool) → eqb (count port (words (getD image 0 0) (rowSize (L .masks)) image 32)) 0 ≡ t →
+    go : (r : Bool) → ltb outLength asked ≡ r → (s : Bool) → soundImage L last image ≡ s → (t : Bool) → eqb (count port (rosterIn L image)) 0 ≡ t →
         cond r 7 (cond s (cond t 9 (frameNumber last frame)) 8) ≡ 0 → Taken L last image port frame outLength
     go true p s q t u e = absurd (omega arith)
     go false p true q true u e = absurd (omega arith)
-    go false p true q false u e = record { room = ltb-false outLength 192 p; sound = q; listed = eqb-false _ 0 u; shape = e }
+    go false p true q false u e = record { room = ltb-false outLength asked p; sound = q; listed = eqb-false _ 0 u; shape = e }
     go false p false q t u e = absurd (omega arith)

@@ -13,6 +13,7 @@ use lib.ListN.{length}
 use lib.Dec.{lit<}
 use Rattle.fields.specs.Field.{Bytes}
 use Rattle.fields.specs.Kind.{ECHO}
+use Rattle.forms.specs.Form.{Reordered}
 use Rattle.forms.specs.Table.{Says}
 use Rattle.rules.specs.Delivery.{Delivered}
 use Rattle.rules.specs.Describe.{lastTick}
@@ -28,7 +29,7 @@ use Rattle.node.specs.Table.{bootChecks, deliverChecks, readChecks}
 use Rattle.node.specs.declared.face.Answer.{Answer}
 use Rattle.node.specs.declared.face.Reading.{Reading}
 use Rattle.node.proofs.Images.{state-again}
-use Rattle.node.proofs.Lives.{Reordered, life-order}
+use Rattle.node.proofs.Lives.{life-order}
 use Rattle.node.proofs.Numbers.{boot-says, boot-told, deliver-says, deliver-told, read-says, read-done, read-refused}
 use Rattle.node.proofs.SoundImages.{in-service, boot-sound, boot-done, boot-refused, deliver-done, deliver-refused}
 use Rattle.node.proofs.SoundImages.{delivery-sound, delivery-ordered, delivery-firings, delivery-records, delivery-below}

@@ -14,7 +14,7 @@ use Rattle.node.specs.Calls.{bootNumber, freshState, booted}
 use Rattle.rules.specs.Describe.{bootRecords}
 use Rattle.node.specs.Image.{layout, putState}
 use Rattle.rules.specs.Record.{putRecords}
-use Rattle.node.proofs.Taken.{boot-refused, told-form, form-limits}
+use Rattle.node.proofs.Taken.{form-refuses, told-form, form-limits}
 use Rattle.node.proofs.face.pebrassola_boot.Statement.{statement}
 use Rattle.node.proofs.face.pebrassola_boot.Tie as tie
 
@@ -91,7 +91,7 @@ returns-3 c =
     let a = c .before .before .before .before .before .before .before .before .args in
     let why = c .before .before .told .given .0 .0 in
     let refused = told-refused (now (a .form)) why (ap toldBy (sym (c .before .before .told .given .1)) ∙ c .before .before .before .before .read-form .ensures) in
-    rw (boot-refused layout (now (a .form)) (length (now (a .image))) (length (now (a .out))) why refused, refusal why, c .number .ensures)
+    rw (form-refuses layout (now (a .form)) (length (now (a .image))) (length (now (a .out))) why refused, refusal why, c .number .ensures)
 
 same-length : tie.Need-same-length
 same-length c = search needs

@@ -8,7 +8,7 @@ use native.Mathlib.Omega.{arith}
 use denote.Ref.{now}
 use lib.ListN.{length}
 use Rattle.fields.specs.Field.{field, putField, words}
-use Rattle.forms.proofs.Rosters.{words-step, words-end}
+use Rattle.fields.proofs.Words.{words-step, words-end}
 use Rattle.sets.specs.Ticks.{empty}
 use Rattle.evidence.specs.Rows.{putSet, putRow, putRows}
 use Rattle.rules.specs.Describe.{freshRows}

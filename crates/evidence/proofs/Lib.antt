@@ -7,3 +7,4 @@ pub mod Greatest
 pub mod Growth
 pub mod Layouts
 pub mod Orders
+pub mod Serials

@@ -3,3 +3,4 @@ pub mod AtRest
 pub mod Firing
 pub mod Modes
 pub mod Records
+pub mod Which

@@ -3,3 +3,4 @@ pub mod Describe
 pub mod Record
 pub mod Rules
 pub mod Steps
+pub mod Which

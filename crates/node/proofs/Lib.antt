@@ -1,4 +1,5 @@
 -- The laws and theorems of `node` that belong to no single function. A reader starts at `Theorems`.
+pub mod Conditions
 pub mod Fresh
 pub mod Heard
 pub mod Images

@@ -4,4 +4,5 @@ pub mod Faces
 pub mod Heard
 pub mod Image
 pub mod Runs
+pub mod Sound
 pub mod Table

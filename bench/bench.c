@@ -10,6 +10,7 @@
 #include <ucontext.h>
 
 #include "../tests/compare/model.h"
+#include "../tests/compare/words.h"
 #include "pebrassola.h"
 
 enum { MOST = 32, EVENTS = 4096, PLACES = 65536, PAINTED = 1 << 16 };
@@ -39,16 +40,6 @@ static struct model_result proved_read(const uint8_t *i, size_t i_length)
     struct pebrassola_reading a = pebrassola_read(i, i_length);
     struct model_result r = {a.number, a.clock};
     return r;
-}
-
-static void put4(uint8_t *b, uint32_t v)
-{
-    for (int i = 3; i >= 0; i--, v >>= 8) b[i] = (uint8_t)v;
-}
-
-static uint32_t get4(const uint8_t *b)
-{
-    return (uint32_t)b[0] << 24 | (uint32_t)b[1] << 16 | (uint32_t)b[2] << 8 | b[3];
 }
 
 static uint32_t serial(unsigned i)
@@ -121,18 +112,28 @@ static double now(void)
     return 1e9 * (double)t.tv_sec + (double)t.tv_nsec;
 }
 
-/* the least of several rounds, so that what else the machine does counts little */
-static double time_run(deliver_call *deliver, size_t size)
+/* one delivery of some that a fresh node takes; the least of several rounds, so that what else the machine does counts little */
+static double time_deliver(deliver_call *deliver, size_t size, const struct event *taken, unsigned count, unsigned rounds)
 {
     double least = 1e18;
-    for (int round = 0; round < 9; round++) {
+    for (unsigned round = 0; round < rounds; round++) {
         double start;
         memcpy(image, fresh, size);
         start = now();
-        for (unsigned e = 0; e < EVENTS; e++) sink += deliver(image, size, events[e].port, events[e].frame, 8, out, sizeof out).value;
+        for (unsigned e = 0; e < count; e++) sink += deliver(image, size, taken[e].port, taken[e].frame, 8, out, sizeof out).value;
         if (now() - start < least) least = now() - start;
     }
-    return least / EVENTS;
+    return least / count;
+}
+
+static double time_run(deliver_call *deliver, size_t size)
+{
+    return time_deliver(deliver, size, events, EVENTS, 9);
+}
+
+static double time_dear(deliver_call *deliver, size_t size, const struct event *dear)
+{
+    return time_deliver(deliver, size, dear, 1, 99);
 }
 
 static double time_read(read_call *read, size_t size)
@@ -168,11 +169,12 @@ static void put_dear_set(uint8_t *set, unsigned n, unsigned in_turn, uint32_t to
 
 /* one of the families: tops a gap apart, alone or in groups of f; active, or passive with dear inits as well; the frame changes
  * nothing, or makes the lowest tick one that f + 1 hold, so that the node jumps and searches again */
-static void make_dear(unsigned n, unsigned family, uint8_t *frame)
+static struct event make_dear(unsigned n, unsigned family)
 {
     static const uint32_t gaps[] = {0, 1, 31, 63, 64, 65, 100};
     unsigned f = (n - 1) / 3, grouped = family & 1, passive = family >> 1 & 1, jumps = family >> 2 & 1;
     uint32_t gap = gaps[family >> 3], lowest = 1000;
+    struct event dear = {serial(0), {jumps ? 2 : 1}};
     boot(n, 0, fresh);
     fresh[2] = !passive;
     for (unsigned i = 0; i < n; i++) {
@@ -182,22 +184,8 @@ static void make_dear(unsigned n, unsigned family, uint8_t *frame)
         if (i == 0) lowest = get4(row + 4);
         if (passive) put_dear_set(row + 16, n, gap < 64, top, i);
     }
-    memset(frame, 0, 8);
-    frame[0] = jumps ? 2 : 1;
-    put4(frame + 4, jumps ? lowest : 9);
-}
-
-static double time_dear(deliver_call *deliver, size_t size, unsigned port, const uint8_t *frame)
-{
-    double least = 1e18;
-    for (int round = 0; round < 99; round++) {
-        double start;
-        memcpy(image, fresh, size);
-        start = now();
-        sink += deliver(image, size, port, frame, 8, out, sizeof out).number;
-        if (now() - start < least) least = now() - start;
-    }
-    return least;
+    put4(dear.frame + 4, jumps ? lowest : 9);
+    return dear;
 }
 
 /* the family that is dearest for the proved calls */
@@ -206,11 +194,10 @@ static unsigned dearest(unsigned n, size_t size)
     unsigned which = 0;
     double most = 0;
     for (unsigned family = 0; family < FAMILIES; family++) {
-        uint8_t frame[8];
+        struct event dear = make_dear(n, family);
         double time;
-        make_dear(n, family, frame);
         if (proved_read(fresh, size).number == PEBRASSOLA_IMAGE) continue;
-        time = time_dear(proved_deliver, size, serial(0), frame);
+        time = time_dear(proved_deliver, size, &dear);
         if (most < time) most = time, which = family;
     }
     return which;
@@ -277,7 +264,7 @@ int main(void)
     for (unsigned s = 0; s < 3; s++) {
         unsigned n = sizes[s];
         size_t size;
-        uint8_t frame[8];
+        struct event dear;
         double proved, plain;
         record_run(n);
         size = boot(n, 0, fresh);
@@ -287,9 +274,9 @@ int main(void)
         proved = time_read(proved_read, size);
         plain = time_read(model_read, size);
         row("read", n, proved, plain);
-        make_dear(n, dearest(n, size), frame);
-        proved = time_dear(proved_deliver, size, serial(0), frame);
-        plain = time_dear(model_deliver, size, serial(0), frame);
+        dear = make_dear(n, dearest(n, size));
+        proved = time_dear(proved_deliver, size, &dear);
+        plain = time_dear(model_deliver, size, &dear);
         row("deliver, dearest", n, proved, plain);
     }
     painted_n = 32;

@@ -1,14 +1,17 @@
 /*
  * Feeds the proved calls and the plain model the same calls and compares numbers, counts and every byte of every buffer, with guard
  * bytes around each: long valid runs with faulty senders, random images, every single-bit damage of sound images, truncated and
- * over-long buffers, forms, frames and ports of all kinds. Fixed seed. Prints the calls and the differences; ends with status 1 where
- * there is one, or where too little was compared.
+ * over-long buffers, empty ones with a pointer that may not be read, forms, frames and ports of all kinds. Fixed seed. Prints the calls
+ * and the differences; ends with status 1 where there is one, or where too little was compared.
  */
+#define _DEFAULT_SOURCE
 #include <stdio.h>
 #include <string.h>
+#include <sys/mman.h>
 
 #include "pebrassola.h"
 #include "model.h"
+#include "words.h"
 
 enum { GUARD = 16, MOST = 1100 };
 
@@ -19,6 +22,7 @@ struct lent {
 };
 
 static unsigned long calls, differences, sound_images;
+static uint8_t *nowhere; /* where an empty buffer is said to lie: no pointer unless a test says so */
 static uint64_t seed = 0x9E3779B97F4A7C15u;
 
 static uint32_t any(uint32_t below)
@@ -32,6 +36,12 @@ static uint32_t any(uint32_t below)
 static uint8_t *body(struct lent *b)
 {
     return b->all + GUARD;
+}
+
+/* the pointer that a call is handed */
+static uint8_t *place(struct lent *b)
+{
+    return b->length ? body(b) : nowhere;
 }
 
 static void lend(struct lent *b, const uint8_t *bytes, size_t length)
@@ -50,81 +60,68 @@ static void check(const char *call, int same)
     }
 }
 
+/* ---- the three calls, on copies; the image that the model leaves is kept */
+
+/* what the archive is lent, and what the model is */
+static struct lent image, image2, out, out2, in, in2;
+static uint8_t filler[MOST];
+
+static void lend_both(struct lent *a, struct lent *b, const uint8_t *bytes, size_t length)
+{
+    lend(a, bytes, length);
+    lend(b, bytes, length);
+}
+
+static void lend_all(const uint8_t *given, size_t length, const uint8_t *kept, size_t i_length, size_t o_length)
+{
+    lend_both(&in, &in2, given, length);
+    lend_both(&image, &image2, kept, i_length);
+    lend_both(&out, &out2, filler, o_length);
+}
+
 static int same_bytes(const struct lent *a, const struct lent *b)
 {
     return memcmp(a->all, b->all, sizeof a->all) == 0;
 }
 
-/* ---- the three calls, on copies; the image that the model leaves is kept */
-
-static struct lent image, image2, out, out2, in, in2;
-static uint8_t filler[MOST];
-
-static int same_lent(void)
+static uint32_t compare(const char *call, uint32_t number, uint32_t value, struct model_result m, uint8_t *kept)
 {
-    return same_bytes(&image, &image2) && same_bytes(&out, &out2) && same_bytes(&in, &in2);
+    check(call, number == m.number && value == m.value && same_bytes(&image, &image2) && same_bytes(&out, &out2) && same_bytes(&in, &in2));
+    if (image2.length) memcpy(kept, body(&image2), image2.length);
+    return m.number;
 }
 
 static uint32_t boot(const uint8_t *f, size_t f_length, uint8_t *kept, size_t i_length, size_t o_length)
 {
     struct pebrassola_answer r;
     struct model_result m;
-    lend(&in, f, f_length);
-    lend(&in2, f, f_length);
-    lend(&image, kept, i_length);
-    lend(&image2, kept, i_length);
-    lend(&out, filler, o_length);
-    lend(&out2, filler, o_length);
-    r = pebrassola_boot(body(&in), f_length, body(&image), i_length, body(&out), o_length);
-    m = model_boot(body(&in), f_length, body(&image2), i_length, body(&out2), o_length);
-    check("boot", r.number == m.number && r.records == m.value && same_lent());
-    if (i_length) memcpy(kept, body(&image2), i_length);
-    return m.number;
+    lend_all(f, f_length, kept, i_length, o_length);
+    r = pebrassola_boot(place(&in), f_length, place(&image), i_length, place(&out), o_length);
+    m = model_boot(place(&in2), f_length, place(&image2), i_length, place(&out2), o_length);
+    return compare("boot", r.number, r.records, m, kept);
 }
 
 static uint32_t deliver(uint8_t *kept, size_t i_length, uint32_t port, const uint8_t *fr, size_t fr_length, size_t o_length)
 {
     struct pebrassola_answer r;
     struct model_result m;
-    lend(&in, fr, fr_length);
-    lend(&in2, fr, fr_length);
-    lend(&image, kept, i_length);
-    lend(&image2, kept, i_length);
-    lend(&out, filler, o_length);
-    lend(&out2, filler, o_length);
-    r = pebrassola_deliver(body(&image), i_length, port, body(&in), fr_length, body(&out), o_length);
-    m = model_deliver(body(&image2), i_length, port, body(&in), fr_length, body(&out2), o_length);
-    check("deliver", r.number == m.number && r.records == m.value && same_lent());
-    if (i_length) memcpy(kept, body(&image2), i_length);
-    return m.number;
+    lend_all(fr, fr_length, kept, i_length, o_length);
+    r = pebrassola_deliver(place(&image), i_length, port, place(&in), fr_length, place(&out), o_length);
+    m = model_deliver(place(&image2), i_length, port, place(&in2), fr_length, place(&out2), o_length);
+    return compare("deliver", r.number, r.records, m, kept);
 }
 
-static uint32_t read_clock(const uint8_t *kept, size_t i_length)
+static uint32_t read_clock(uint8_t *kept, size_t i_length)
 {
     struct pebrassola_reading r;
     struct model_result m;
-    lend(&image, kept, i_length);
-    lend(&image2, kept, i_length);
-    r = pebrassola_read(body(&image), i_length);
-    m = model_read(body(&image2), i_length);
-    check("read", r.number == m.number && r.clock == m.value && same_bytes(&image, &image2));
-    return m.number;
+    lend_all(filler, 0, kept, i_length, 0);
+    r = pebrassola_read(place(&image), i_length);
+    m = model_read(place(&image2), i_length);
+    return compare("read", r.number, r.clock, m, kept);
 }
 
 /* ---- what is fed */
-
-static void put4(uint8_t *b, uint32_t v)
-{
-    b[0] = (uint8_t)(v >> 24);
-    b[1] = (uint8_t)(v >> 16);
-    b[2] = (uint8_t)(v >> 8);
-    b[3] = (uint8_t)v;
-}
-
-static uint32_t get4(const uint8_t *b)
-{
-    return (uint32_t)b[0] << 24 | (uint32_t)b[1] << 16 | (uint32_t)b[2] << 8 | b[3];
-}
 
 static size_t make_form(uint8_t *f, unsigned n, unsigned faults)
 {
@@ -256,6 +253,31 @@ static void forms(unsigned rounds)
     }
 }
 
+/*
+ * Each buffer of each call empty, alone and together with others. The header allows any pointer for an empty one: none, the least and
+ * the greatest address, a page that may not be read.
+ */
+static void empty_buffers(unsigned n, unsigned faults)
+{
+    enum { PAGE = 65536 };
+    uint8_t *page = mmap(NULL, PAGE, PROT_NONE, MAP_PRIVATE | MAP_ANONYMOUS, -1, 0);
+    uint8_t *pointers[] = {NULL, (uint8_t *)1, page, (uint8_t *)UINTPTR_MAX};
+    uint8_t f[MOST], kept[MOST], fr[8] = {2};
+    size_t size = 32 + 28 * (size_t)n, f_length = make_form(f, n, faults);
+    if (page == MAP_FAILED) check("page", 0);
+    for (unsigned p = 0; p < sizeof pointers / sizeof pointers[0]; p++)
+        for (unsigned empty = 0; empty < 8; empty++) {
+            nowhere = NULL;
+            boot(f, f_length, kept, size, 192);
+            nowhere = pointers[p];
+            boot(f, empty & 1 ? 0 : f_length, kept, empty & 2 ? 0 : size, empty & 4 ? 0 : 192);
+            deliver(kept, empty & 2 ? 0 : size, get4(f + 8), fr, empty & 1 ? 0 : 8, empty & 4 ? 0 : 192);
+            read_clock(kept, empty & 2 ? 0 : size);
+        }
+    nowhere = NULL;
+    munmap(page, PAGE);
+}
+
 int main(void)
 {
     memset(filler, 0x3C, sizeof filler);
@@ -272,6 +294,9 @@ int main(void)
         unsigned n = 1 + any(32);
         random_image(n, any((n + 2) / 3));
     }
+    empty_buffers(1, 0);
+    empty_buffers(4, 1);
+    empty_buffers(32, 10);
     printf("compare: %lu calls (%lu random sound images), %lu differences\n", calls, sound_images, differences);
     return differences != 0 || calls < 200000 || sound_images < 1000;
 }

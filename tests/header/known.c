@@ -1,0 +1,148 @@
+/*
+ * The header against the archive, by answers that document 01 settles and with no model between: W1 to W9, and a call for each number.
+ * The archive puts an answer's fields where its own struct has them, and a C compiler knows only the header's struct: so each field is
+ * looked at where its value is known and the other field's is another. Sizes, places and numbers are looked at when this is compiled,
+ * unless CALLS_ALONE is defined: then the calls have to notice by themselves. Prints what is wrong and a count; ends with status 1
+ * where something is.
+ */
+#include <stdio.h>
+#include <string.h>
+
+#include "../compare/words.h"
+#include "pebrassola.h"
+
+#ifndef CALLS_ALONE
+#define SETTLED(name, fact) typedef char name##_is_settled[(fact) ? 1 : -1]
+#define FIELD(type, field, at) SETTLED(type##_##field, offsetof(struct type, field) == (at) && sizeof(((struct type *)0)->field) == 4)
+
+FIELD(pebrassola_answer, number, 0);
+FIELD(pebrassola_answer, records, 4);
+SETTLED(answer, sizeof(struct pebrassola_answer) == 8);
+FIELD(pebrassola_reading, number, 0);
+FIELD(pebrassola_reading, clock, 4);
+SETTLED(reading, sizeof(struct pebrassola_reading) == 8);
+
+/* 01, "Numbers given back", by the names of their rows */
+SETTLED(numbers_of_all, PEBRASSOLA_DONE == 0);
+SETTLED(numbers_of_forms, PEBRASSOLA_FORM_LAYOUT == 1 && PEBRASSOLA_FORM_LIMITS == 2 && PEBRASSOLA_FORM_ZERO == 3);
+SETTLED(more_numbers_of_forms, PEBRASSOLA_FORM_TWICE == 4 && PEBRASSOLA_FORM_OWN == 5);
+SETTLED(numbers_of_rooms, PEBRASSOLA_IMAGE_ROOM == 6 && PEBRASSOLA_OUT_ROOM == 7);
+SETTLED(numbers_of_images, PEBRASSOLA_IMAGE == 8 && PEBRASSOLA_PASSIVE == 12);
+SETTLED(numbers_of_frames, PEBRASSOLA_PORT == 9 && PEBRASSOLA_FRAME == 10 && PEBRASSOLA_FRAME_TICK == 11);
+
+/* 01, "Layouts" and "Limits" */
+SETTLED(forms, PEBRASSOLA_FORM_BYTES(4) == 24 && PEBRASSOLA_MOST_CONTROLLERS == 32);
+SETTLED(images, PEBRASSOLA_IMAGE_BYTES(4) == 144 && PEBRASSOLA_IMAGE_BYTES(32) == 928);
+SETTLED(frames, PEBRASSOLA_FRAME_BYTES == 8 && PEBRASSOLA_LAST_TICK == 4000000000u);
+SETTLED(outputs, PEBRASSOLA_RECORD_BYTES == 12 && PEBRASSOLA_OUT_BYTES == 192);
+#endif
+
+enum { INIT = 1, ECHO = 2 };
+
+static uint8_t image[144], out[192];
+static size_t size = sizeof image, room = sizeof out; /* how much of the two is lent */
+static unsigned answers, wrong;
+
+static void expect(const char *call, uint32_t number, uint32_t value, uint32_t known, uint32_t known_value)
+{
+    answers++;
+    if (number == known && value == known_value) return;
+    wrong++;
+    printf("%s: number %u with %u, and 01 says %u with %u\n", call, number, value, known, known_value);
+}
+
+static void expect_record(const char *call, unsigned place, uint32_t to, unsigned kind, uint32_t tick)
+{
+    uint8_t record[12] = {0};
+    put4(record, to);
+    record[4] = (uint8_t)kind;
+    put4(record + 8, tick);
+    answers++;
+    if (memcmp(out + 12 * place, record, sizeof record) == 0) return;
+    wrong++;
+    printf("%s: record %u is not what 01 says\n", call, place);
+}
+
+/* boots the node of the whole case (n = 4, f = 1, own serial 11) by its form with one byte set */
+static void boot(const char *call, unsigned place, unsigned byte, uint32_t known)
+{
+    uint8_t form[24] = {4, 1, 0, 8, 0, 0, 0, 11, 0, 0, 0, 11, 0, 0, 0, 22, 0, 0, 0, 33, 0, 0, 0, 44};
+    struct pebrassola_answer a;
+    form[place] = (uint8_t)byte;
+    a = pebrassola_boot(form, sizeof form, image, size, out, room);
+    expect(call, a.number, a.records, known, known == 0);
+}
+
+static void deliver(const char *call, uint32_t port, unsigned kind, uint32_t tick, uint32_t known, uint32_t known_records)
+{
+    uint8_t frame[8] = {(uint8_t)kind};
+    struct pebrassola_answer a;
+    put4(frame + 4, tick);
+    a = pebrassola_deliver(image, size, port, frame, sizeof frame, out, room);
+    expect(call, a.number, a.records, known, known_records);
+}
+
+static void read_clock(const char *call, uint32_t known, uint32_t known_clock)
+{
+    struct pebrassola_reading r = pebrassola_read(image, size);
+    expect(call, r.number, r.clock, known, known_clock);
+}
+
+/* 01, "Settled examples" */
+static void story(void)
+{
+    boot("W1", 0, 4, 0);
+    expect_record("W1", 0, 0, ECHO, 0);
+    read_clock("W1 read", 12, 0);
+    deliver("W2", 11, ECHO, 0, 0, 0);
+    deliver("W3", 22, ECHO, 0, 0, 1);
+    expect_record("W3", 0, 22, ECHO, 0);
+    deliver("W4", 33, ECHO, 0, 0, 2);
+    expect_record("W4", 0, 33, ECHO, 0);
+    expect_record("W4", 1, 0, INIT, 1);
+    read_clock("W4 read", 12, 0);
+    deliver("W5", 11, INIT, 1, 0, 0);
+    deliver("W6", 22, INIT, 1, 0, 1);
+    expect_record("W6", 0, 0, ECHO, 1);
+    read_clock("W6 read", 0, 1);
+    deliver("W7", 44, ECHO, 1, 0, 0);
+    deliver("W7", 33, ECHO, 5, 0, 0);
+    deliver("W8", 22, ECHO, 6, 0, 1);
+    expect_record("W8", 0, 0, ECHO, 4);
+    read_clock("W8 read", 0, 4);
+    deliver("W9", 44, ECHO, 4, 0, 2);
+    expect_record("W9", 0, 0, INIT, 5);
+    expect_record("W9", 1, 0, ECHO, 5);
+    read_clock("W9 read", 0, 5);
+}
+
+/* 01, "Numbers given back", on the image that W9 leaves; the calls of the story have 0 and 12 */
+static void refusals(void)
+{
+    boot("offset 9", 3, 9, 1);
+    boot("f = 2", 1, 2, 2);
+    boot("own serial 0", 7, 0, 3);
+    boot("11 twice", 15, 11, 4);
+    boot("own serial 12", 7, 12, 5);
+    size = 143;
+    boot("image of 143 bytes", 0, 4, 6);
+    deliver("image of 143 bytes", 22, ECHO, 1, 8, 0);
+    read_clock("image of 143 bytes", 8, 0);
+    size = 144;
+    room = 191;
+    boot("output of 191 bytes", 0, 4, 7);
+    deliver("output of 191 bytes", 22, ECHO, 1, 7, 0);
+    room = 192;
+    deliver("port 12", 12, ECHO, 1, 9, 0);
+    deliver("kind 3", 22, 3, 1, 10, 0);
+    deliver("after the last tick", 22, ECHO, 4000000001u, 11, 0);
+    deliver("the last tick", 22, ECHO, 4000000000u, 0, 0);
+}
+
+int main(void)
+{
+    story();
+    refusals();
+    printf("header: %u answers, %u wrong\n", answers, wrong);
+    return wrong != 0;
+}

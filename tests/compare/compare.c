@@ -264,6 +264,7 @@ static void empty_buffers(unsigned n, unsigned faults)
     uint8_t *pointers[] = {NULL, (uint8_t *)1, page, (uint8_t *)UINTPTR_MAX};
     uint8_t f[MOST], kept[MOST], fr[8] = {2};
     size_t size = 32 + 28 * (size_t)n, f_length = make_form(f, n, faults);
+    memset(kept, 7, sizeof kept);
     if (page == MAP_FAILED) check("page", 0);
     for (unsigned p = 0; p < sizeof pointers / sizeof pointers[0]; p++)
         for (unsigned empty = 0; empty < 8; empty++) {

@@ -21,6 +21,7 @@ use Rattle.evidence.specs.Rows.{rowSize}
 use Rattle.node.specs.Calls.{Outcome, refused, outcome, Reading, bootNumber, booted, deliverNumber, deliverOutcome, readNumber, unread, reading}
 use Rattle.rules.specs.Describe.{room}
 use Rattle.node.specs.Image.{Layout, imageSize, rosterIn, nodeOf, soundImage}
+use Rattle.node.proofs.Conditions.{not-sound-says}
 use Rattle.node.specs.Table.{bootChecks, deliverChecks, readChecks}
 
 -- the number that an outcome tells is the number that decides it
@@ -45,9 +46,6 @@ pub deliver-told : (L : Layout) (last : ℕ) (image : List ℕ) (port : ℕ) (fr
 unfolding deliverOutcome
 deliver-told L last image port frame out = decides (deliverNumber L last image port frame (length out)) image out _ refl
 
-is-true : (t : Bool) → Decides t (t ≡ true)
-is-true t = (λ e. e, λ e. e)
-
 -- a test that passes where the next number is looked for
 swap : (t : Bool) (a b : ℕ) → cond t a b ≡ cond (not t) b a
 swap true a b = refl
@@ -59,7 +57,7 @@ deliver-says L last image port frame out =
     rw (deliver-told L last image port frame out)
     (in-front 7 (less (length out) room) (omega arith)
     (rw (swap (soundImage L last image))
-    (in-front 8 (opposite (soundImage L last image) (is-true (soundImage L last image))) (omega arith)
+    (in-front 8 (not-sound-says L last image) (omega arith)
     (in-front 9 (absent port (rosterIn L image)) (omega arith) (rw (frame-told last frame) at (frame-says last frame))))))
 
 -- ---- read: 8, 12
@@ -72,7 +70,7 @@ pub read-says : (L : Layout) (last : ℕ) (image : List ℕ) → Says (reading L
 unfolding readNumber
 read-says L last image =
     rw (read-told L last image, swap (soundImage L last image))
-    (in-front 8 (opposite (soundImage L last image) (is-true (soundImage L last image))) (omega arith) (in-front 12 (equal (getD image 2 0) 0) (omega arith) none))
+    (in-front 8 (not-sound-says L last image) (omega arith) (in-front 12 (equal (getD image 2 0) 0) (omega arith) none))
 
 -- a refused read gives clock 0, and an accepted one k
 module _ (L : Layout) (last : ℕ) (image : List ℕ) where

@@ -1,5 +1,5 @@
 -- What the calls leave alone, for every outcome, refused ones included: bytes behind the image's size, bytes behind the records, and
--- of the image itself all but mode, k, last echo and the port's row. And a read that is refused gives clock 0. Over the layout.
+-- of the image itself all but mode, k, last echo and the port's row. Over the layout.
 -- Assumes nothing.
 use mathlib.Core.Path.{_≡_, refl, sym, ap, _∙_, subst}
 use mathlib.Core.Bool.{Bool, true, false, cond}
@@ -23,8 +23,9 @@ use Rattle.rules.specs.Describe.{bootRecords}
 use Rattle.rules.specs.Record.{Outgoing, recordSize, putRecord, putRecords}
 use Rattle.rules.specs.declared.node.Node.{Node}
 use Rattle.rules.proofs.Records.{length-putRecords}
-use Rattle.node.specs.Calls.{Outcome, outcome, Reading, bootNumber, freshState, booted, deliverNumber, deliveryOf, imageAfter}
-use Rattle.node.specs.Calls.{deliverOutcome, readNumber, reading}
+use Rattle.node.specs.After.{InRow}
+use Rattle.node.specs.Calls.{Outcome, refused, outcome, bootNumber, freshState, booted, deliverNumber, deliveryOf, imageAfter}
+use Rattle.node.specs.Calls.{deliverOutcome}
 use Rattle.node.specs.Image.{Layout, headerSize, imageSize, stateOf, putClock, putFixed, putNode, putState}
 use Rattle.node.proofs.Fresh.{fresh-length}
 use Rattle.node.proofs.Images.{length-putClock, length-putNode}
@@ -112,13 +113,13 @@ credit-elsewhere mb w serial kind j (suc n) b c i p bytes same out =
 
 either : (number : ℕ) (image out : List ℕ) (done : Outcome) (Holds : Outcome → Type 0) →
     Holds done →
-    ((n : ℕ) → Holds (record { number = n; records = 0; image = image; out = out })) →
+    ((n : ℕ) → Holds (refused n image out)) →
     Holds (outcome number image out done)
-either number image out done Holds taken refused = go (eqb number 0)
+either number image out done Holds taken other = go (eqb number 0)
   where
-    go : (t : Bool) → Holds (cond t done (record { number = number; records = 0; image = image; out = out }))
+    go : (t : Bool) → Holds (cond t done (refused number image out))
     go true = taken
-    go false = refused number
+    go false = other number
 
 -- ---- boot
 
@@ -160,14 +161,6 @@ module _ (L : Layout) (form image out : List ℕ) where
       (length-putRecords out 0 bootRecords) (λ n. refl)
 
 -- ---- deliver
-
--- byte i of the image lies in a row whose serial is the port's
-pub record InRow (L : Layout) (image : List ℕ) (port i : ℕ) : Type 0 where
-  pub row : ℕ
-  pub listed : row < getD image 0 0
-  pub serial : field 4 image (headerSize + row * rowSize (L .masks)) ≡ port
-  pub from : headerSize + row * rowSize (L .masks) ≤ i
-  pub to : i < headerSize + row * rowSize (L .masks) + rowSize (L .masks)
 
 module _ (L : Layout) (last : ℕ) (image : List ℕ) (port : ℕ) (frame out : List ℕ) where
   rows-many : length (deliveryOf L last image port frame .state .rows) ≡ getD image 0 0
@@ -222,19 +215,3 @@ module _ (L : Layout) (last : ℕ) (image : List ℕ) (port : ℕ) (frame out : 
       ∙ credit-elsewhere (L .masks) (L .window) port (getD frame 0 0) (field 4 frame 4) (getD image 0 0) image image headerSize i bytes
       (λ q p. refl) (λ k p s from to. elsewhere (record { row = k; listed = p; serial = s; from = from; to = to })))
       (λ n. refl)
-
--- ---- read
-
--- a read that is refused gives clock 0
-pub read-refused : (L : Layout) (last : ℕ) (image : List ℕ) →
-    (reading L last image .number ≡ 0 → ⊥) →
-    reading L last image ≡ record { number = reading L last image .number; clock = 0 }
-unfolding reading
-read-refused L last image = go (eqb (readNumber L last image) 0)
-  where
-    told : Bool → Reading
-    told t = cond t (record { number = 0; clock = field 4 image 8 }) (record { number = readNumber L last image; clock = 0 })
-
-    go : (t : Bool) → (told t .number ≡ 0 → ⊥) → told t ≡ record { number = told t .number; clock = 0 }
-    go true n = absurd (n refl)
-    go false n = refl

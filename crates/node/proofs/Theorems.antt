@@ -1,34 +1,42 @@
 -- WHERE A READER STARTS. The customer's three demands about boot, deliver and read, one block for each call, at the layout and the last
 -- tick in service. What the words of a statement mean is in specs/: `booted`, `deliverOutcome` and `reading` in Calls, the rows of the
--- table of numbers in Table, what a call leaves in After, a truck's whole life in Runs. That the code gives just these outcomes, for
--- every input, is the contract of each exported function (src/face.rt). The proofs are short here and stand in the files named.
+-- table of numbers in Table, what a call leaves in After, what was heard in Heard, a truck's whole life in Runs. That the code gives
+-- just these outcomes, for every input, is the contract of each exported function (src/face.rt). The proofs are short here and stand in
+-- the files named.
 -- Assumes nothing.
 use mathlib.Core.Path.{_≡_, refl, sym, ap, _∙_, subst}
 use mathlib.Core.Bool.{true}
-use mathlib.Core.List.{List, [], _∷_}
-use Prim.Native.Nat.{ℕ, _≤_}
+use mathlib.Core.Logic.{_⊎_}
+use mathlib.Core.List.{List, [], _∷_, List·Memᴰ}
+use Prim.Native.Nat.{ℕ, _*_, _≤_, _<_}
 use native.Mathlib.Decide.{ℕ-discrete}
 use native.Mathlib.Omega.{arith}
-use lib.ListN.{length}
+use lib.ListN.{length, getD}
 use lib.Dec.{lit<}
 use Rattle.fields.specs.Field.{Bytes}
-use Rattle.fields.specs.Kind.{ECHO}
-use Rattle.forms.specs.Form.{Reordered}
+use Rattle.fields.specs.Kind.{INIT, ECHO}
+use Rattle.forms.specs.Form.{linesOf, Reordered}
 use Rattle.forms.specs.Table.{Says}
 use Rattle.rules.specs.Delivery.{Delivered}
-use Rattle.rules.specs.Describe.{lastTick}
-use Rattle.rules.specs.Record.{broadcast, putRecords}
+use Rattle.sets.specs.History.{Sent, heard}
+use Rattle.sets.specs.Ticks.{Held}
+use Rattle.rules.specs.Describe.{window, lastTick}
+use Rattle.rules.specs.Record.{broadcast, recordSize, putRecords}
 use Rattle.rules.specs.declared.node.Node.{Node}
-use Rattle.node.specs.After.{Begins, Follows}
+use Rattle.node.specs.After.{Begins, Follows, InRow}
 use Rattle.node.specs.Calls.{Outcome, refused, booted, deliverNumber, deliveryOf, deliverDone, deliverOutcome, unread, reading}
 use Rattle.node.specs.Calls.{Reading as Told}
 use Rattle.node.specs.Faces.{outcomeBy, readingBy}
-use Rattle.node.specs.Image.{layout, nodeOf, stateOf, fixedHeader, putState}
+use Rattle.node.specs.Heard.{imageLeft, heldUnder, accepted}
+use Rattle.node.specs.Image.{layout, imageSize, rowsOf, nodeOf, stateOf, fixedHeader, putState}
 use Rattle.node.specs.Runs.{Call, life}
 use Rattle.node.specs.Table.{bootChecks, deliverChecks, readChecks}
 use Rattle.node.specs.declared.face.Answer.{Answer}
 use Rattle.node.specs.declared.face.Reading.{Reading}
 use Rattle.node.proofs.Images.{state-again}
+use Rattle.node.proofs.Heard.{held-is-heard, held-same}
+use Rattle.node.proofs.Kept.{boot-behind-image, boot-behind-records}
+use Rattle.node.proofs.Kept.{deliver-behind-image, deliver-behind-records, deliver-only}
 use Rattle.node.proofs.Lives.{life-order}
 use Rattle.node.proofs.Numbers.{boot-says, boot-told, deliver-says, deliver-told, read-says, read-done, read-refused}
 use Rattle.node.proofs.SoundImages.{in-service, boot-sound, boot-done, boot-refused, deliver-done, deliver-refused}
@@ -66,6 +74,13 @@ module _ (form image out : List ℕ) where
   boot-sends ok =
       let done = boot-done layout form image out (sym (boot-told layout form image out) ∙ ok) in
       (ap (λ (o : Outcome). o .records) done, ap (λ (o : Outcome). o .out) done)
+
+  -- Bytes behind the image's size stay, and bytes behind the records
+  pub boot-behind-the-image : (i : ℕ) → imageSize layout (linesOf form) ≤ i → getD (boots .image) i 0 ≡ getD image i 0
+  boot-behind-the-image = boot-behind-image layout form image out
+
+  pub boot-behind-the-records : (i : ℕ) → recordSize * boots .records ≤ i → getD (boots .out) i 0 ≡ getD out i 0
+  boot-behind-the-records = boot-behind-records layout form image out
 
 -- ---- Deliver
 
@@ -107,6 +122,25 @@ module _ (image : List ℕ) (port : ℕ) (frame out : List ℕ) where
       delivers .number ≡ 0
       → (delivers .records ≡ length (step .records)) × (delivers .out ≡ putRecords out 0 (step .records))
   deliver-sends ok = (ap (λ (o : Outcome). o .records) (done ok), ap (λ (o : Outcome). o .out) (done ok))
+
+  -- It changes no byte of the image but mode, k, last echo and the port's row
+  pub deliver-changes-only :
+      Bytes image
+      → (i : ℕ)
+      -- mode, k and last echo
+      → (i ≡ 2 → ⊥)
+      → ((8 ≤ i) × (i < 12) → ⊥)
+      → ((12 ≤ i) × (i < 16) → ⊥)
+      → (InRow layout image port i → ⊥)
+      → getD (delivers .image) i 0 ≡ getD image i 0
+  deliver-changes-only bytes i = deliver-only layout lastTick image port frame out i bytes
+
+  -- Bytes behind the image's size stay, and bytes behind the records
+  pub deliver-behind-the-image : (i : ℕ) → imageSize layout (getD image 0 0) ≤ i → getD (delivers .image) i 0 ≡ getD image i 0
+  deliver-behind-the-image = deliver-behind-image layout lastTick image port frame out
+
+  pub deliver-behind-the-records : (i : ℕ) → recordSize * delivers .records ≤ i → getD (delivers .out) i 0 ≡ getD out i 0
+  deliver-behind-the-records = deliver-behind-records layout lastTick image port frame out
 
   -- The step comes to rest within 13 firings, and sends at most 14 records of the 16 that fit
   pub few-firings :
@@ -167,6 +201,30 @@ module _ (image : List ℕ) where
       → fixedHeader layout image ≡ true
       → putState layout image (stateOf layout image) ≡ image
   image-again = state-again layout image
+
+-- ---- Evidence, over any calls from any senders, refused ones among them
+
+module _ (image : List ℕ) (serial kind : ℕ) (bytes : Bytes image) (known : (kind ≡ INIT) ⊎ (kind ≡ ECHO)) where
+  -- the set of a kind held under the serial after the calls
+  abbrev held : List Call → Held
+  held calls = heldUnder (rowsOf layout (imageLeft layout lastTick image calls)) serial kind
+
+  -- the frames accepted from it
+  abbrev from : List Call → List Sent
+  from calls = accepted layout lastTick image serial calls
+
+  -- Demand 2. It is what was held at the start, and the frames accepted from the serial since, heard one after the other
+  pub evidence-is-heard : (calls : List Call) → held calls ≡ heard window kind (held []) (from calls)
+  unfolding imageLeft
+  evidence-is-heard calls = held-is-heard layout lastTick in-service (lit< tt) image calls serial kind bytes known
+
+  -- The order of its frames and their repetition decide nothing: where the same were accepted, the same is held
+  pub evidence-is-the-same :
+      (calls others : List Call)
+      → ((frame : Sent) → List·Memᴰ frame (from calls) → List·Memᴰ frame (from others))
+      → ((frame : Sent) → List·Memᴰ frame (from others) → List·Memᴰ frame (from calls))
+      → held calls ≡ held others
+  evidence-is-the-same calls others = held-same layout lastTick in-service (lit< tt) image calls others serial kind bytes known
 
 -- ---- Demand 3. Two forms alike in all but the line order of their serials: the same is seen after each call, for ever
 

@@ -32,13 +32,18 @@ field-lt (suc w) b i h =
 -- a field of u + w bytes is the first u, and then the other w
 pub field-join : (u w : ℕ) (b : List ℕ) (i : ℕ) → field (u + w) b i ≡ field u b i * 256 ^ w + field w b (i + u)
 unfolding field
-field-join u zero b i = rw add-zero (omega arith)
+field-join u zero b i = rw (add-zero u) (omega arith)
 field-join u (suc w) b i = ap (λ (n : ℕ). field n b i) (add-suc u w) ∙ step (field-join u w b i)
   where
-    step : field (u + w) b i ≡ field u b i * 256 ^ w + field w b (i + u) → field (u + w) b i * 256 + getD b (i + (u + w)) 0 ≡ field u b i * 256 ^ suc w + (field w b (i + u) * 256 + getD b (i + u + w) 0)
+    step : field (u + w) b i ≡ field u b i * 256 ^ w + field w b (i + u) →
+        field (u + w) b i * 256 + getD b (i + (u + w)) 0 ≡ field u b i * 256 ^ suc w + (field w b (i + u) * 256 + getD b (i + u + w) 0)
     step e =
-        omega
-        (arith, ap (λ (n : ℕ). field u b i * n) (pow-suc 256 w), mul-assoc (field u b i) (256 ^ w) 256, ap (λ (n : ℕ). getD b n 0) (add-assoc i u w))
+        omega (
+          arith,
+          ap (λ (n : ℕ). field u b i * n) (pow-suc 256 w),
+          mul-assoc (field u b i) (256 ^ w) 256,
+          ap (λ (n : ℕ). getD b n 0) (add-assoc i u w),
+        )
 
 -- a byte is a field of one
 pub field-byte : (b : List ℕ) (i : ℕ) → field 1 b i ≡ getD b i 0
@@ -60,7 +65,8 @@ put-byte b i v p = let low : v % 256 ≡ v = omega arith in rw (add-zero, low)
 pub drop-put : (w : ℕ) (b : List ℕ) (i v n : ℕ) → i + w ≤ n → drop n (putField w b i v) ≡ drop n b
 unfolding putField
 drop-put zero b i v n p = refl
-drop-put (suc w) b i v n p = drop-set-lt n (putField w b i (v / 256)) (i + w) (v % 256) (omega arith) ∙ drop-put w b i (v / 256) n (omega arith)
+drop-put (suc w) b i v n p =
+    drop-set-lt n (putField w b i (v / 256)) (i + w) (v % 256) (omega arith) ∙ drop-put w b i (v / 256) n (omega arith)
 
 pub length-put : (w : ℕ) (b : List ℕ) (i v : ℕ) → length (putField w b i v) ≡ length b
 unfolding putField
@@ -71,10 +77,12 @@ pub getD-put-other : (w : ℕ) (b : List ℕ) (i v j : ℕ) → ((k : ℕ) → k
 unfolding putField
 getD-put-other zero b i v j h = refl
 getD-put-other (suc w) b i v j h =
-    getD-set-other (putField w b i (v / 256)) (i + w) j (v % 256) 0 (h w (omega arith)) ∙ getD-put-other w b i (v / 256) j (λ k p. h k (omega arith))
+    getD-set-other (putField w b i (v / 256)) (i + w) j (v % 256) 0 (h w (omega arith))
+    ∙ getD-put-other w b i (v / 256) j (λ k p. h k (omega arith))
 
 -- a field that a store does not touch
-pub field-put-other : (u w : ℕ) (b : List ℕ) (i v j : ℕ) → ((k l : ℕ) → k < u → l < w → j + k ≡ i + l → ⊥) → field u (putField w b i v) j ≡ field u b j
+pub field-put-other : (u w : ℕ) (b : List ℕ) (i v j : ℕ) → ((k l : ℕ) → k < u → l < w → j + k ≡ i + l → ⊥) →
+    field u (putField w b i v) j ≡ field u b j
 field-put-other u w b i v j h = field-same u (putField w b i v) b j j (λ k p. getD-put-other w b i v (j + k) (λ l q. h k l p q))
 
 -- a number that fits reads back
@@ -82,7 +90,9 @@ pub field-put : (w : ℕ) (b : List ℕ) (i v : ℕ) → i + w ≤ length b → 
 unfolding field putField
 field-put zero b i v p q = omega arith
 field-put (suc w) b i v p q =
-    ap₂ (λ (x y : ℕ). x * 256 + y) (first ∙ field-put w b i (v / 256) (omega arith) (div-lt-iff-lt-mul (lit< tt) .1 (rw pow-suc at q))) last ∙ omega arith
+    ap₂ (λ (x y : ℕ). x * 256 + y)
+    (first ∙ field-put w b i (v / 256) (omega arith) (div-lt-iff-lt-mul (lit< tt) .1 (rw pow-suc at q))) last
+    ∙ omega arith
   where
     first : field w (set (putField w b i (v / 256)) (i + w) (v % 256)) i ≡ field w (putField w b i (v / 256)) i
     first =
@@ -97,7 +107,9 @@ pub put-field : (w : ℕ) (b : List ℕ) (i : ℕ) → Bytes b → putField w b 
 unfolding field putField
 put-field zero b i h = refl
 put-field (suc w) b i h =
-    ap₂ (λ (x y : ℕ). set (putField w b i x) (i + w) y) high low ∙ ap (λ (l : List ℕ). set l (i + w) (getD b (i + w) 0)) (put-field w b i h) ∙ set-getD b (i + w) 0
+    ap₂ (λ (x y : ℕ). set (putField w b i x) (i + w) y) high low
+    ∙ ap (λ (l : List ℕ). set l (i + w) (getD b (i + w) 0)) (put-field w b i h)
+    ∙ set-getD b (i + w) 0
   where
     high : (field w b i * 256 + getD b (i + w) 0) / 256 ≡ field w b i
     high = omega (arith, h (i + w))
@@ -146,19 +158,21 @@ put-join u (suc w) b i v = ap (λ (n : ℕ). putField n b i v) (add-suc u w) ∙
     quotient : v / 256 / 256 ^ w ≡ v / 256 ^ suc w
     quotient = div-div-eq-div-mul v 256 (256 ^ w) ∙ ap (λ (m : ℕ). v / m) (sym (pow-succ' 256 w))
 
-    step : putField (u + w) b i (v / 256) ≡ putField w (putField u b i (v / 256 / 256 ^ w)) (i + u) (v / 256) → set (putField (u + w) b i (v / 256)) (i + (u + w)) (v % 256) ≡ set (putField w (putField u b i (v / 256 ^ suc w)) (i + u) (v / 256)) (i + u + w) (v % 256)
+    step : putField (u + w) b i (v / 256) ≡ putField w (putField u b i (v / 256 / 256 ^ w)) (i + u) (v / 256) →
+        set (putField (u + w) b i (v / 256)) (i + (u + w)) (v % 256)
+        ≡ set (putField w (putField u b i (v / 256 ^ suc w)) (i + u) (v / 256)) (i + u + w) (v % 256)
     step e =
         ap₂ (λ (l : List ℕ) (n : ℕ). set l n (v % 256))
         (e ∙ ap (λ (x : ℕ). putField w (putField u b i x) (i + u) (v / 256)) quotient) (sym (add-assoc i u w))
 
 -- ---- a store of bytes leaves bytes
 
-pub bytes-set : (b : List ℕ) (p y : ℕ) → Bytes b → y < 256 → Bytes (set b p y)
-bytes-set b p y h q j = elim (ℕ-discrete j p) [ yes e ↦ same e (decLe (length b) p) | no ne ↦ subst (λ (x : ℕ). x < 256) (sym (getD-set-other b p j y 0 ne)) (h j) ]
+bytes-set : (b : List ℕ) (p y : ℕ) → Bytes b → y < 256 → Bytes (set b p y)
+bytes-set b p y h q j = elim (ℕ-discrete j p) [ yes e ↦ same e (decLe (length b) p) | no ne ↦ rw (getD-set-other b p j y 0 ne) (h j) ]
   where
     same : j ≡ p → Dec (length b ≤ p) → getD (set b p y) j 0 < 256
-    same e (yes l) = subst (λ (x : List ℕ). getD x j 0 < 256) (sym (set-out b p y l)) (h j)
-    same e (no l) = subst (λ (x : ℕ). getD (set b p y) x 0 < 256) (sym e) (subst (λ (x : ℕ). x < 256) (sym (getD-set-same b p y 0 (omega arith))) q)
+    same e (yes l) = rw (set-out b p y l) (h j)
+    same e (no l) = rw (e, getD-set-same b p y 0 (omega arith)) q
 
 pub bytes-put : (w : ℕ) (b : List ℕ) (i v : ℕ) → Bytes b → Bytes (putField w b i v)
 unfolding putField

@@ -38,9 +38,11 @@ unfolding putStores
 stores-apart b w i [] t = refl
 stores-apart b w i (s ∷ ss) t =
     let h = and-yes (leb (i + w) (s .place) || leb (s .place + s .width) i) (apart w i ss) t in
-    stores-apart (putField (s .width) b (s .place) (s .value)) w i ss (h .1) ∙ go (or-yes (leb (i + w) (s .place)) (leb (s .place + s .width) i) (h .0))
+    stores-apart (putField (s .width) b (s .place) (s .value)) w i ss (h .1)
+    ∙ go (or-yes (leb (i + w) (s .place)) (leb (s .place + s .width) i) (h .0))
   where
-    go : T (leb (i + w) (s .place)) ⊎ T (leb (s .place + s .width) i) → field w (putField (s .width) b (s .place) (s .value)) i ≡ field w b i
+    go : T (leb (i + w) (s .place)) ⊎ T (leb (s .place + s .width) i) →
+        field w (putField (s .width) b (s .place) (s .value)) i ≡ field w b i
     go (inl p) = field-put-other w (s .width) b (s .place) (s .value) i (λ k l q r e. omega (arith, leb→le (i + w) (s .place) p))
     go (inr p) = field-put-other w (s .width) b (s .place) (s .value) i (λ k l q r e. omega (arith, leb→le (s .place + s .width) i p))
 
@@ -60,7 +62,8 @@ stores-append b [] after = refl
 stores-append b (s ∷ before) after = stores-append (putField (s .width) b (s .place) (s .value)) before after
 
 -- a store that no later one touches reads back
-pub stored : (b : List ℕ) (before : List Store) (w i v : ℕ) (after : List Store) → T (apart w i after) → i + w ≤ length b → v < 256 ^ w → field w (putStores b (before ++ store w i v ∷ after)) i ≡ v
+stored : (b : List ℕ) (before : List Store) (w i v : ℕ) (after : List Store) →
+    T (apart w i after) → i + w ≤ length b → v < 256 ^ w → field w (putStores b (before ++ store w i v ∷ after)) i ≡ v
 unfolding putStores
 stored b before w i v after t room fits =
     ap (λ (l : List ℕ). field w l i) (stores-append b before (store w i v ∷ after))
@@ -68,7 +71,10 @@ stored b before w i v after t room fits =
     ∙ field-put w (putStores b before) i v (omega (arith, length-stores b before)) fits
 
 -- the same by place in the run: store number k, counted from 0
-pub stored-at : (b : List ℕ) (ss : List Store) (k : ℕ) → k < length ss → T (apart (getD ss k (store 0 0 0) .width) (getD ss k (store 0 0 0) .place) (drop (suc k) ss)) → getD ss k (store 0 0 0) .place + getD ss k (store 0 0 0) .width ≤ length b → getD ss k (store 0 0 0) .value < 256 ^ getD ss k (store 0 0 0) .width → field (getD ss k (store 0 0 0) .width) (putStores b ss) (getD ss k (store 0 0 0) .place) ≡ getD ss k (store 0 0 0) .value
+pub stored-at : (b : List ℕ) (ss : List Store) (k : ℕ) → k < length ss →
+    let s = getD ss k (store 0 0 0) in
+    T (apart (s .width) (s .place) (drop (suc k) ss)) → s .place + s .width ≤ length b → s .value < 256 ^ s .width →
+    field (s .width) (putStores b ss) (s .place) ≡ s .value
 stored-at b ss k p t room fits =
     let s = getD ss k (store 0 0 0) in
     ap (λ (l : List Store). field (s .width) (putStores b l) (s .place)) (split-at ss k (store 0 0 0) p)

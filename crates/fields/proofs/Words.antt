@@ -49,12 +49,17 @@ getD-words (suc n) s b i (suc k) p =
     getD-words n s b (i + s) k (omega arith) ∙ ap (field 4 b) e
 
 -- columns whose bytes are the same are the same
-pub words-same : (n s : ℕ) (b c : List ℕ) (i j : ℕ) → 4 ≤ s → ((k : ℕ) → k < n * s → getD b (i + k) 0 ≡ getD c (j + k) 0) → words n s b i ≡ words n s c j
+pub words-same : (n s : ℕ) (b c : List ℕ) (i j : ℕ) → 4 ≤ s → ((k : ℕ) → k < n * s → getD b (i + k) 0 ≡ getD c (j + k) 0) →
+    words n s b i ≡ words n s c j
 unfolding words
 words-same zero s b c i j p h = refl
 words-same (suc n) s b c i j p h =
     ap₂ (λ (x : ℕ) (l : List ℕ). x ∷ l) (field-same 4 b c i j (λ k q. h k (omega (arith, suc-mul n s))))
-    (words-same n s b c (i + s) (j + s) p (λ k q. ap (λ (m : ℕ). getD b m 0) (add-assoc i s k) ∙ h (s + k) (omega (arith, suc-mul n s)) ∙ ap (λ (m : ℕ). getD c m 0) (sym (add-assoc j s k))))
+    (words-same n s b c (i + s) (j + s) p
+    (λ k q.
+    ap (λ (m : ℕ). getD b m 0) (add-assoc i s k)
+    ∙ h (s + k) (omega (arith, suc-mul n s))
+    ∙ ap (λ (m : ℕ). getD c m 0) (sym (add-assoc j s k))))
 
 -- ---- what a store of words leaves
 
@@ -76,7 +81,8 @@ pub drop-putWords : (s : ℕ) (b : List ℕ) (i : ℕ) (vs : List ℕ) (n : ℕ)
 unfolding putWords
 drop-putWords s b i [] n p q = refl
 drop-putWords s b i (v ∷ vs) n p q =
-    drop-putWords s (putField 4 b i v) (i + s) vs n p (omega (arith, suc-mul (length vs) s)) ∙ drop-put 4 b i v n (omega (arith, suc-mul (length vs) s))
+    drop-putWords s (putField 4 b i v) (i + s) vs n p (omega (arith, suc-mul (length vs) s))
+    ∙ drop-put 4 b i v n (omega (arith, suc-mul (length vs) s))
 
 -- words one behind the other, stored right behind bytes that two lists share, give them more such bytes
 pub take-putWords : (b c : List ℕ) (i : ℕ) (vs : List ℕ) (n : ℕ) →
@@ -92,12 +98,14 @@ pub field-putWords-before : (w s : ℕ) (b : List ℕ) (i : ℕ) (vs : List ℕ)
 field-putWords-before w s b i vs j p = field-same w (putWords s b i vs) b j j (λ k q. getD-putWords-before s b i vs (j + k) (omega arith))
 
 -- words that fit read back
-pub words-putWords : (s : ℕ) (b : List ℕ) (i : ℕ) (vs : List ℕ) → 4 ≤ s → i + length vs * s ≤ length b → Words vs → words (length vs) s (putWords s b i vs) i ≡ vs
+pub words-putWords : (s : ℕ) (b : List ℕ) (i : ℕ) (vs : List ℕ) → 4 ≤ s → i + length vs * s ≤ length b → Words vs →
+    words (length vs) s (putWords s b i vs) i ≡ vs
 unfolding words putWords
 words-putWords s b i [] p q h = refl
 words-putWords s b i (v ∷ vs) p q h =
     ap₂ (λ (x : ℕ) (l : List ℕ). x ∷ l)
-    (field-putWords-before 4 s (putField 4 b i v) (i + s) vs i (omega arith) ∙ field-put 4 b i v (omega (arith, suc-mul (length vs) s)) (h zero))
+    (field-putWords-before 4 s (putField 4 b i v) (i + s) vs i (omega arith)
+    ∙ field-put 4 b i v (omega (arith, suc-mul (length vs) s)) (h zero))
     (words-putWords s (putField 4 b i v) (i + s) vs p (omega (arith, suc-mul (length vs) s, length-put 4 b i v)) (λ k. h (suc k)))
 
 -- words stored where they stood change nothing

@@ -55,6 +55,7 @@ long : frameNumber 4000000000 (1 ∷ 0 ∷ 0 ∷ 0 ∷ 255 ∷ 255 ∷ 255 ∷ 2
 unfolding frameNumber
 long = refl
 
-frame-written : frameWritten 4000000000 ECHO 69 (replicate 9 7) ≡ record { number = 0; written = 8; out = 2 ∷ 0 ∷ 0 ∷ 0 ∷ 0 ∷ 0 ∷ 0 ∷ 69 ∷ 7 ∷ [] }
+frame-written :
+    frameWritten 4000000000 ECHO 69 (replicate 9 7) ≡ record { number = 0; written = 8; out = 2 ∷ 0 ∷ 0 ∷ 0 ∷ 0 ∷ 0 ∷ 0 ∷ 69 ∷ 7 ∷ [] }
 unfolding frameWritten putFrame putField
 frame-written = refl

@@ -16,9 +16,11 @@ use Rattle.forms.specs.Number.{orElse}
 use Rattle.fields.specs.Field.{field}
 use Rattle.fields.specs.Kind.{INIT, ECHO}
 use Rattle.forms.specs.Roster.{mostLines, count, twins, rosterNumber}
-use Rattle.forms.specs.Form.{serialsPlace, formSize, linesOf, faultsOf, ownOf, serialsOf, misplaced, FormTold, formNumber, formTold, WriteTold, writeTold, formWritten}
-use Rattle.forms.specs.Frame.{frameSize, badKind, FrameTold, frameNumber, frameTold, frameWritten}
-use Rattle.forms.specs.Table.{_or_, Misplaced, HasZero, Twice, Stranger, Beyond, BadKind, Misshapen, Check, _when_, Given, Says, rosterChecks, formChecks, frameChecks, roomCheck}
+use Rattle.forms.specs.Form.{serialsPlace, formSize, linesOf, faultsOf, ownOf, serialsOf, misplaced, formNumber}
+use Rattle.forms.specs.Form.{FormTold, formTold, WriteTold, writeTold, formWritten}
+use Rattle.forms.specs.Frame.{frameSize, badKind, misshapen, FrameTold, frameNumber, frameTold, frameWritten}
+use Rattle.forms.specs.Table.{_or_, Misplaced, HasZero, Twice, Beyond, BadKind, Misshapen}
+use Rattle.forms.specs.Table.{Check, _when_, Given, Says, rosterChecks, formChecks, frameChecks, roomCheck}
 use Rattle.fields.proofs.Words.{length-words}
 
 -- ---- what the counts mean
@@ -122,8 +124,10 @@ none = record { exactly = λ k. (sym, sym) }
 -- ---- the roster
 
 zeros : (own : ℕ) (serials : List ℕ) → (0 < count 0 (own ∷ serials)) ↔ HasZero own serials
-zeros own serials =
-    (λ p. ⊎-map sym (λ m. m) (List·Memᴰ·cases-cons (found 0 (own ∷ serials) p)), ⊎-elim (λ e. counted (List·Memᴰ·head (sym e))) (λ m. counted (List·Memᴰ·tail m)))
+zeros own serials = (
+  λ p. ⊎-map sym (λ m. m) (List·Memᴰ·cases-cons (found 0 (own ∷ serials) p)),
+  ⊎-elim (λ e. counted (List·Memᴰ·head (sym e))) (λ m. counted (List·Memᴰ·tail m)),
+)
 
 -- a serial's count is 0 exactly where it is not in the list
 pub absent : (x : ℕ) (l : List ℕ) → Decides (eqb (count x l) 0) (List·Memᴰ x l → ⊥)
@@ -131,8 +135,11 @@ absent x l =
     Iff·trans (equal (count x l) 0)
     (λ e m. omega (arith, counted m), λ n. elim (decLt 0 (count x l)) [ yes p ↦ absurd (n (found x l p)) | no q ↦ omega arith ])
 
+beyond-says : (n f : ℕ) → Decides (ltb n 1 || ltb mostLines n || ltb n (3 * f + 1)) (Beyond n f)
+beyond-says n f = either _ _ (either _ _ (less n 1) (less mostLines n)) (less n (3 * f + 1))
+
 -- other checks behind come after the last of these
-pub past : (t : Bool) (n rest next : ℕ) → orElse (cond t (suc n) rest) next ≡ cond t (suc n) (orElse rest next)
+past : (t : Bool) (n rest next : ℕ) → orElse (cond t (suc n) rest) next ≡ cond t (suc n) (orElse rest next)
 past true n rest next = refl
 past false n rest next = refl
 
@@ -143,7 +150,7 @@ pub roster-then : (f own : ℕ) (serials : List ℕ) {next : ℕ} {checks : List
 unfolding rosterNumber
 roster-then f own serials {next} {checks} says fresh =
     rw (past, past, past, past)
-    (in-front 2 (either _ _ (either _ _ (less (length serials) 1) (less mostLines (length serials))) (less (length serials) (3 * f + 1))) (λ g. fresh .0 (g .1 .1 .1))
+    (in-front 2 (beyond-says (length serials) f) (λ g. fresh .0 (g .1 .1 .1))
     (in-front 3 (Iff·trans (less 0 (count 0 (own ∷ serials))) (zeros own serials)) (λ g. fresh .1 (g .1 .1))
     (in-front 4 (Iff·trans (less 0 (twins serials)) (twice-says serials)) (λ g. fresh .2 (g .1))
     (in-front 5 (absent own serials) (fresh .3)
@@ -174,7 +181,9 @@ unfolding formTold
 form-told b = told (λ (t : FormTold). t .number) _ _ (formNumber b) refl refl
 
 misplaced-says : (b : List ℕ) → Decides (misplaced b) (Misplaced b)
-misplaced-says b = either _ _ (either _ _ (less (length b) serialsPlace) (opposite _ (equal (field 2 b 2) serialsPlace))) (opposite _ (equal (length b) (formSize (linesOf b))))
+misplaced-says b =
+    either _ _ (either _ _ (less (length b) serialsPlace) (opposite _ (equal (field 2 b 2) serialsPlace)))
+    (opposite _ (equal (length b) (formSize (linesOf b))))
 
 -- the form reader's number is what rows 1 to 5 give
 pub form-says : (b : List ℕ) → Says (formTold b .number) (formChecks b)
@@ -192,7 +201,8 @@ unfolding formNumber
 form-then b {next} {checks} says fresh =
     rw past
     (in-front 1 (misplaced-says b) (λ g. fresh .0 (g .1 .1 .1 .1))
-    (rw (length-words (linesOf b) 4 b serialsPlace) at (roster-then (faultsOf b) (ownOf b) (serialsOf b) says (fresh .1, fresh .2, fresh .3, fresh .4))))
+    (rw (length-words (linesOf b) 4 b serialsPlace) at
+    (roster-then (faultsOf b) (ownOf b) (serialsOf b) says (fresh .1, fresh .2, fresh .3, fresh .4))))
 
 bad : (kind : ℕ) → Decides (badKind kind) (BadKind kind)
 bad kind = both _ _ (opposite _ (equal kind INIT)) (opposite _ (equal kind ECHO))
@@ -207,30 +217,37 @@ pub frame-says : (last : ℕ) (b : List ℕ) → Says (frameTold last b .number)
 unfolding frameNumber
 frame-says last b =
     rw (frame-told last b)
-    (in-front 10 (either _ _ (either _ _ (either _ _ (either _ _ (opposite _ (equal (length b) frameSize)) (bad (getD b 0 0))) (is0 1)) (is0 2)) (is0 3)) (omega arith)
-    (in-front 11 (less last (field 4 b 4)) (omega arith) none))
+    (in-front 10 shape (omega arith) (in-front 11 (less last (field 4 b 4)) (omega arith) none))
   where
     is0 : (i : ℕ) → Decides (not (eqb (getD b i 0) 0)) (getD b i 0 ≢ 0)
     is0 i = opposite _ (equal (getD b i 0) 0)
+
+    shape : Decides (misshapen b) (Misshapen b)
+    shape =
+        either _ _
+        (either _ _ (either _ _ (either _ _ (opposite _ (equal (length b) frameSize)) (bad (getD b 0 0))) (is0 1)) (is0 2))
+        (is0 3)
 
 -- ---- the writers
 
 room : (size : ℕ) (out : List ℕ) → Says (cond (ltb (length out) size) 7 0) (roomCheck size out ∷ [])
 room size out = in-front 7 (less (length out) size) (omega arith) none
 
+-- the number of one of two answers
+either-number : {A : Type 0} (number : A → ℕ) (t : Bool) (x y : A) → number (cond t x y) ≡ cond t (number x) (number y)
+either-number number true x y = refl
+either-number number false x y = refl
+
 -- a writer tells the number of its checks, and else 7 or 0
 pub write-number : (number size : ℕ) (before after : List ℕ) →
     writeTold number size before after .number ≡ orElse number (cond (ltb (length before) size) 7 0)
-write-number zero size before after = go (ltb (length before) size)
-  where
-    go : (t : Bool) → (cond {A = WriteTold} t (record { number = 7; written = 0; out = before }) (record { number = 0; written = size; out = after })) .number ≡ cond t 7 0
-    go true = refl
-    go false = refl
+write-number zero size before after = either-number (λ (t : WriteTold). t .number) (ltb (length before) size) _ _
 write-number (suc n) size before after = rw (eqb·suc-zero n)
 
 -- the form writer's number is what rows 2 to 5 give, and 7 last
 pub form-writer-says : (f own : ℕ) (serials out : List ℕ) →
-    Says (formWritten f own serials out .number) (rosterChecks (length serials) f own serials ++ roomCheck (formSize (length serials)) out ∷ [])
+    Says (formWritten f own serials out .number)
+    (rosterChecks (length serials) f own serials ++ roomCheck (formSize (length serials)) out ∷ [])
 unfolding formWritten
 form-writer-says f own serials out = rw write-number (roster-then f own serials (room (formSize (length serials)) out) (omega arith))
 

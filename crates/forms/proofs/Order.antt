@@ -2,18 +2,19 @@
 -- So a zero serial and a twin are never taken in line order.
 -- Assumes nothing.
 use mathlib.Core.Path.{_≡_, refl, sym, ap, ap₂, _∙_, subst₂}
-use Prim.Native.Nat.{ℕ, _+_, _*_, _<_, _≤_}
+use Prim.Native.Nat.{ℕ, _+_, _<_, _≤_}
 use native.Mathlib.Decide.{ℕ-discrete}
 use native.Mathlib.Omega.{arith}
 use mathlib.Core.Bool.{Bool, true, false, cond}
 use mathlib.Core.List.{List, List·Permᴰ, List·Permᴰ·nil, List·Permᴰ·cons, List·Permᴰ·swap, List·Permᴰ·trans}
-use lib.ListN.{length, getD, take}
+use lib.ListN.{length, getD}
 use lib.Seq.{getD-take}
 use lib.Dec.{eqb}
 use borrow.Author.Tests.{eq-eqb, ne-eqb}
 use Rattle.fields.specs.Field.{field, words}
 use Rattle.forms.specs.Roster.{count, twins, rosterNumber}
-use Rattle.forms.specs.Form.{serialsPlace, formSize, linesOf, faultsOf, ownOf, serialsOf, linesIn, Reordered, misplaced, formNumber, formTold, formWritten}
+use Rattle.forms.specs.Form.{serialsPlace, formSize, linesOf, faultsOf, ownOf, serialsOf, linesIn, Reordered}
+use Rattle.forms.specs.Form.{misplaced, formNumber, formTold, formWritten}
 use Rattle.fields.proofs.Fields.{field-same}
 use Rattle.forms.proofs.Meaning.{write-number}
 use Rattle.forms.proofs.Told.{placed-length, taken-parts}
@@ -37,7 +38,11 @@ count-order x (List·Permᴰ·swap e₁ e₂) =
 count-order x (List·Permᴰ·trans p q) = count-order x p ∙ count-order x q
 
 eqb-swap : (a b : ℕ) → eqb a b ≡ eqb b a
-eqb-swap a b = elim (ℕ-discrete a b) [ yes e ↦ eq-eqb a b e ∙ sym (eq-eqb b a (sym e)) | no n ↦ ne-eqb a b n ∙ sym (ne-eqb b a (λ e. n (sym e))) ]
+eqb-swap a b =
+    elim (ℕ-discrete a b) [
+      | yes e ↦ eq-eqb a b e ∙ sym (eq-eqb b a (sym e))
+      | no n ↦ ne-eqb a b n ∙ sym (ne-eqb b a (λ e. n (sym e)))
+    ]
 
 -- and as many pairs of lines hold the same serial
 pub twins-order : {l m : List ℕ} → List·Permᴰ l m → twins l ≡ twins m
@@ -46,7 +51,12 @@ twins-order List·Permᴰ·nil = refl
 twins-order (List·Permᴰ·cons {a} {b} {l₁} {l₂} e p) =
     ap₂ (λ (n t : ℕ). n + t) (count-order a p ∙ ap (λ (x : ℕ). count x l₂) e) (twins-order p)
 twins-order (List·Permᴰ·swap {a} {b} {a′} {b′} {l} e₁ e₂) =
-    omega (arith, ap {B = ℕ} (λ (t : Bool). cond t 1 0) (eqb-swap b a ∙ ap₂ eqb e₁ e₂), ap (λ (x : ℕ). count x l) e₁, ap (λ (x : ℕ). count x l) e₂)
+    omega (
+      arith,
+      ap {B = ℕ} (λ (t : Bool). cond t 1 0) (eqb-swap b a ∙ ap₂ eqb e₁ e₂),
+      ap (λ (x : ℕ). count x l) e₁,
+      ap (λ (x : ℕ). count x l) e₂,
+    )
 twins-order (List·Permᴰ·trans p q) = twins-order p ∙ twins-order q
 
 -- so the roster gets the same number
@@ -55,7 +65,8 @@ unfolding rosterNumber
 roster-order f own p = cc (length-order p, count-order 0 (List·Permᴰ·cons (λ _. own) p), twins-order p, count-order own p)
 
 -- and the form writer gives the same number
-pub write-order : (f own : ℕ) (out : List ℕ) {l m : List ℕ} → List·Permᴰ l m → formWritten f own l out .number ≡ formWritten f own m out .number
+pub write-order : (f own : ℕ) (out : List ℕ) {l m : List ℕ} → List·Permᴰ l m →
+    formWritten f own l out .number ≡ formWritten f own m out .number
 unfolding formWritten
 write-order f own out p = simp write-number (cc (roster-order f own p, length-order p))
 
@@ -82,7 +93,8 @@ module _ {b c : List ℕ} (r : Reordered b c) where
   -- where it is right, they have the same serials in some order
   laid-order : misplaced b ≡ false → List·Permᴰ (serialsOf b) (serialsOf c)
   laid-order e =
-      subst₂ (λ (l m : List ℕ). List·Permᴰ l m) (lines-serials b (placed-length b e)) (lines-serials c (placed-length c (sym layout-same ∙ e))) (r .lines)
+      subst₂ (λ (l m : List ℕ). List·Permᴰ l m)
+      (lines-serials b (placed-length b e)) (lines-serials c (placed-length c (sym layout-same ∙ e))) (r .lines)
 
   -- the form gets the same number
   pub form-number-order : formNumber b ≡ formNumber c

@@ -42,7 +42,8 @@ unfolding twins
 twins-end n s b i p = ap twins (words-end n s b i p)
 
 -- the first line, which holds x, makes a twin of each line behind it that holds x
-pub twins-step : (n s : ℕ) (b : List ℕ) (i x : ℕ) → 0 < n → x ≡ field 4 b i → twins (words n s b i) ≡ count x (words (n - 1) s b (i + s)) + twins (words (n - 1) s b (i + s))
+pub twins-step : (n s : ℕ) (b : List ℕ) (i x : ℕ) → 0 < n → x ≡ field 4 b i →
+    twins (words n s b i) ≡ count x (words (n - 1) s b (i + s)) + twins (words (n - 1) s b (i + s))
 unfolding twins
 twins-step n s b i x p e = rw e (ap twins (words-step n s b i p))
 

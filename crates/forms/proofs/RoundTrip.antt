@@ -5,7 +5,7 @@ use mathlib.Core.Path.{_≡_, refl, sym, ap, ap₂, _∙_}
 use mathlib.Core.Logic.{_↔_, _≢_, inl, inr}
 use mathlib.Core.Bool.{Bool, true, false, cond, or-false}
 use mathlib.Core.List.{List, _++_}
-use Prim.Native.Nat.{ℕ, _+_, _*_, _^_, _≤_, _<_}
+use Prim.Native.Nat.{ℕ, _+_, _^_, _≤_, _<_}
 use native.Mathlib.Decide.{decLt, ℕ-discrete}
 use native.Mathlib.Omega.{arith}
 use lib.ListN.{length, getD, take, drop, take-append-drop}
@@ -69,7 +69,8 @@ module _ (number size : ℕ) (before after : List ℕ) where
 
   -- bytes behind what is written stay, and so does the length, whatever the number
   kept-bytes : drop size after ≡ drop size before → length after ≡ length before →
-      (drop size (writeTold number size before after .out) ≡ drop size before) × (length (writeTold number size before after .out) ≡ length before)
+      (drop size (writeTold number size before after .out) ≡ drop size before)
+      × (length (writeTold number size before after .out) ≡ length before)
   kept-bytes behind long = go (eqb number 0) (ltb (length before) size)
     where
       go : (s t : Bool) → (drop size (answer s t .out) ≡ drop size before) × (length (answer s t .out) ≡ length before)
@@ -180,7 +181,8 @@ module _ (f own : ℕ) (serials out : List ℕ) (fits : own < 2 ^ 32) (whole : W
 
   -- its bytes are read back with n, f and the own serial
   pub form-read-back :
-      formTold (take (formSize (length serials)) (formWritten f own serials out .out)) ≡ record { number = 0; lines = length serials; faults = f; own = own }
+      formTold (take (formSize (length serials)) (formWritten f own serials out .out))
+      ≡ record { number = 0; lines = length serials; faults = f; own = own }
   unfolding formTold form
   form-read-back = rw front (cc (number-back, lines-back, faults-back, own-back))
 
@@ -190,16 +192,19 @@ module _ (f own : ℕ) (serials out : List ℕ) (fits : own < 2 ^ 32) (whole : W
   serials-read-back = rw front serials-back
 
   -- line by line
-  pub serial-read-back : (line : ℕ) → serialOn (take (formSize (length serials)) (formWritten f own serials out .out)) line ≡ getD serials line 0
+  pub serial-read-back : (line : ℕ) →
+      serialOn (take (formSize (length serials)) (formWritten f own serials out .out)) line ≡ getD serials line 0
   unfolding serialOn form
   serial-read-back line = rw front (cc (number-back, serials-back))
 
 -- bytes behind a form stay, and so does the length, whatever the number
 pub form-kept : (f own : ℕ) (serials out : List ℕ) →
-    (drop (formSize (length serials)) (formWritten f own serials out .out) ≡ drop (formSize (length serials)) out) × (length (formWritten f own serials out .out) ≡ length out)
+    (drop (formSize (length serials)) (formWritten f own serials out .out) ≡ drop (formSize (length serials)) out)
+    × (length (formWritten f own serials out .out) ≡ length out)
 unfolding formWritten
 form-kept f own serials out =
-    kept-bytes (rosterNumber f own serials) (formSize (length serials)) out (putForm out f own serials) (drop-form out f own serials) (length-form out f own serials)
+    kept-bytes (rosterNumber f own serials) (formSize (length serials)) out (putForm out f own serials)
+    (drop-form out f own serials) (length-form out f own serials)
 
 -- a form that is refused is not written at all
 pub form-refused : (f own : ℕ) (serials out : List ℕ) → (formWritten f own serials out .number ≡ 0 → ⊥) →
@@ -211,8 +216,16 @@ form-refused f own serials out = refused-bytes (rosterNumber f own serials) (for
 form-self : (b : List ℕ) → Bytes b → field 2 b 2 ≡ serialsPlace → putForm b (faultsOf b) (ownOf b) (serialsOf b) ≡ b
 unfolding putForm
 form-self b h e =
-    cc
-    (field-byte b 0, field-byte b 1, length-words (linesOf b) 4 b serialsPlace, put-field 1 b 0 h, put-field 1 b 1 h, put-field 2 b 2 h, put-field 4 b 4 h, putWords-words (linesOf b) 4 b serialsPlace h)
+    cc (
+      field-byte b 0,
+      field-byte b 1,
+      length-words (linesOf b) 4 b serialsPlace,
+      put-field 1 b 0 h,
+      put-field 1 b 1 h,
+      put-field 2 b 2 h,
+      put-field 4 b 4 h,
+      putWords-words (linesOf b) 4 b serialsPlace h,
+    )
 
 -- what the form reader took, the form writer writes byte for byte, over the front of the output
 pub form-written-again : (b out : List ℕ) → Bytes b → formNumber b ≡ 0 → length b ≤ length out →
@@ -243,9 +256,13 @@ module _ (out : List ℕ) (kind tick : ℕ) where
 
   drop-frame : drop frameSize (putFrame out 0 kind tick) ≡ drop frameSize out
   unfolding putFrame
-  drop-frame = drop-put 4 _ 4 tick frameSize (omega arith) ∙ drop-put 3 _ 1 0 frameSize (omega arith) ∙ drop-put 1 out 0 kind frameSize (omega arith)
+  drop-frame =
+      drop-put 4 _ 4 tick frameSize (omega arith)
+      ∙ drop-put 3 _ 1 0 frameSize (omega arith)
+      ∙ drop-put 1 out 0 kind frameSize (omega arith)
 
-  take-frame : (b : List ℕ) → frameSize ≤ length out → frameSize ≤ length b → take frameSize (putFrame out 0 kind tick) ≡ take frameSize (putFrame b 0 kind tick)
+  take-frame : (b : List ℕ) → frameSize ≤ length out → frameSize ≤ length b →
+      take frameSize (putFrame out 0 kind tick) ≡ take frameSize (putFrame b 0 kind tick)
   unfolding putFrame
   take-frame b p q =
       take-put 4 _ _ 4 tick (simp length-put (omega arith)) (simp length-put (omega arith))
@@ -293,22 +310,27 @@ module _ (last kind tick : ℕ) (out : List ℕ) (fits : tick < 2 ^ 32) (ok : fr
 
   frame-number-back : frameNumber last frame ≡ 0
   unfolding frameNumber frame
-  frame-number-back = cc (size, kind-back, zero-bytes frame .0 zeros-back .0, zero-bytes frame .0 zeros-back .1, zero-bytes frame .0 zeros-back .2, tick-back, or-false (badKind kind), sent .0)
+  frame-number-back =
+      let zeros = zero-bytes frame .0 zeros-back in
+      cc (size, kind-back, zeros .0, zeros .1, zeros .2, tick-back, or-false (badKind kind), sent .0)
     where
       size : length frame ≡ frameSize
       size = length-take-le frameSize (putFrame out 0 kind tick) (omega (arith, sent .1, length-frame out kind tick))
 
   -- its bytes are read back with kind and tick
-  pub frame-read-back : frameTold last (take frameSize (frameWritten last kind tick out .out)) ≡ record { number = 0; kind = kind; tick = tick }
+  pub frame-read-back :
+      frameTold last (take frameSize (frameWritten last kind tick out .out)) ≡ record { number = 0; kind = kind; tick = tick }
   unfolding frameTold frame
   frame-read-back = rw (ap (λ (t : WriteTold). t .out) (sent .2)) (cc (frame-number-back, kind-back, tick-back))
 
 -- bytes behind a frame stay, and so does the length, whatever the number
 pub frame-kept : (last kind tick : ℕ) (out : List ℕ) →
-    (drop frameSize (frameWritten last kind tick out .out) ≡ drop frameSize out) × (length (frameWritten last kind tick out .out) ≡ length out)
+    (drop frameSize (frameWritten last kind tick out .out) ≡ drop frameSize out)
+    × (length (frameWritten last kind tick out .out) ≡ length out)
 unfolding frameWritten
 frame-kept last kind tick out =
-    kept-bytes (frameWriteNumber last kind tick) frameSize out (putFrame out 0 kind tick) (drop-frame out kind tick) (length-frame out kind tick)
+    kept-bytes (frameWriteNumber last kind tick) frameSize out (putFrame out 0 kind tick)
+    (drop-frame out kind tick) (length-frame out kind tick)
 
 -- a frame that is refused is not written at all
 pub frame-refused : (last kind tick : ℕ) (out : List ℕ) → (frameWritten last kind tick out .number ≡ 0 → ⊥) →
@@ -327,7 +349,7 @@ pub frame-written-again : (last : ℕ) (b out : List ℕ) → Bytes b → frameN
 unfolding frameWritten
 frame-written-again last b out h e p =
     wrote-bytes (frameWriteNumber last (getD b 0 0) (field 4 b 4)) frameSize out (putFrame out 0 (getD b 0 0) (field 4 b 4)) b ok size
-    (take-frame out (getD b 0 0) (field 4 b 4) b (omega (arith, size)) (omega (arith, size)) ∙ ap (λ (l : List ℕ). take frameSize l) (frame-self b h zeros))
+    (take-frame out (getD b 0 0) (field 4 b 4) b (omega (arith, size)) (omega (arith, size)) ∙ ap (take frameSize) (frame-self b h zeros))
     (drop-frame out (getD b 0 0) (field 4 b 4))
   where
     g : Given (frameChecks last b) 0
@@ -338,7 +360,11 @@ frame-written-again last b out h e p =
 
     zeros : field 3 b 1 ≡ 0
     zeros =
-        zero-bytes b .1 (settled _ _ (λ n. g .0 (inl (inl (inr n)))), settled _ _ (λ n. g .0 (inl (inr n))), settled _ _ (λ n. g .0 (inr n)))
+        zero-bytes b .1 (
+          settled _ _ (λ n. g .0 (inl (inl (inr n)))),
+          settled _ _ (λ n. g .0 (inl (inr n))),
+          settled _ _ (λ n. g .0 (inr n)),
+        )
 
     ok : frameWritten last (getD b 0 0) (field 4 b 4) out .number ≡ 0
     ok =

@@ -75,4 +75,5 @@ pub one-written : (a b : Written) (out other : List ℕ) → writtenBy a out ≡
 one-written (Wrote m) (Wrote n) out other e = (ap (λ (t : WriteTold). Wrote (t .written)) e, ap (λ (t : WriteTold). t .out) e)
 one-written (Wrote m) (NotWritten w) out other e = absurd (never w (sym (ap (λ (t : WriteTold). t .number) e)))
 one-written (NotWritten v) (Wrote n) out other e = absurd (never v (ap (λ (t : WriteTold). t .number) e))
-one-written (NotWritten v) (NotWritten w) out other e = (ap NotWritten (same-case v w (ap (λ (t : WriteTold). t .number) e)), ap (λ (t : WriteTold). t .out) e)
+one-written (NotWritten v) (NotWritten w) out other e =
+    (ap NotWritten (same-case v w (ap (λ (t : WriteTold). t .number) e)), ap (λ (t : WriteTold). t .out) e)

@@ -10,7 +10,8 @@ use lib.ListN.{length}
 use lib.Dec.{ltb, eqb}
 use borrow.Author.Tests.{eqb-true, not-false}
 use Rattle.fields.specs.Field.{field}
-use Rattle.forms.specs.Form.{serialsPlace, formSize, FormTold, misplaced, formNumber, formTold, refusedForm, linesOf, faultsOf, ownOf, serialsOf}
+use Rattle.forms.specs.Form.{serialsPlace, formSize, linesOf, faultsOf, ownOf, serialsOf, misplaced, formNumber}
+use Rattle.forms.specs.Form.{FormTold, formTold, refusedForm}
 use Rattle.forms.specs.Number.{numberOf}
 use Rattle.forms.specs.Roster.{rosterNumber}
 use Rattle.forms.specs.declared.answer.Refusal.{Refusal}
@@ -49,7 +50,8 @@ module _ (b : List ℕ) where
   pub told-refused : (why : Refusal) → refusedForm (numberOf why) ≡ formTold b → formNumber b ≡ numberOf why
   told-refused why e = sym (form-told b) ∙ ap (λ (t : FormTold). t .number) (sym e)
 
-  pub told-taken : (n f own : ℕ) → _≡_ {A = FormTold} (record { number = 0; lines = n; faults = f; own = own }) (formTold b) → (formNumber b ≡ 0) × (n ≡ linesOf b)
+  pub told-taken : (n f own : ℕ) →
+      _≡_ {A = FormTold} (record { number = 0; lines = n; faults = f; own = own }) (formTold b) → (formNumber b ≡ 0) × (n ≡ linesOf b)
   told-taken n f own e =
       let z : formNumber b ≡ 0 = sym (form-told b) ∙ ap (λ (t : FormTold). t .number) (sym e) in
       (z, ap (λ (t : FormTold). t .lines) (e ∙ form-taken z))
@@ -70,7 +72,7 @@ module _ (b : List ℕ) where
   pub placed-length : misplaced b ≡ false → length b ≡ formSize (linesOf b)
   placed-length e =
       eqb-true (length b) (formSize (linesOf b))
-      (not-false _ (or-last (ltb (length b) serialsPlace || not (eqb (field 2 b 2) serialsPlace)) (not (eqb (length b) (formSize (linesOf b)))) e))
+      (not-false _ (or-last (ltb (length b) serialsPlace || not (eqb (field 2 b 2) serialsPlace)) _ e))
 
   -- so a form that is taken is, too
   pub form-length : formNumber b ≡ 0 → length b ≡ formSize (linesOf b)

@@ -32,7 +32,8 @@ returns : tie.Need-returns
 returns c =
     let a = c .before .before .before .before .before .before .before .before .before .args in
     c .before .before .put-word2 .ensures
-    ∙ ap (λ (l : List ℕ). putField 4 l (a .i + 4) (a .v % 4294967296)) (c .before .before .before .before .before .before .put-word .ensures)
+    ∙ ap (λ (l : List ℕ). putField 4 l (a .i + 4) (a .v % 4294967296))
+    (c .before .before .before .before .before .before .put-word .ensures)
     ∙ put-mod 4 (putField 4 (now (a .b)) (a .i) (a .v / 4294967296)) (a .i + 4) (a .v)
     ∙ sym (put-join 4 4 (now (a .b)) (a .i) (a .v))
 

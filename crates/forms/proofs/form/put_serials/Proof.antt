@@ -14,11 +14,13 @@ use Rattle.forms.proofs.form.put_serials.Statement.{statement}
 use Rattle.forms.proofs.form.put_serials.Tie as tie
 
 -- one turn: with the serial on line k stored, the lines behind it are what is left to store
-store-step : (out : List ℕ) (i k : ℕ) (serials : List ℕ) → k < length serials → putWords 4 (putField 4 out (i + 4 * k) (getD serials k 0)) (i + 4 * (k + 1)) (drop (k + 1) serials) ≡ putWords 4 out (i + 4 * k) (drop k serials)
+store-step : (out : List ℕ) (i k : ℕ) (serials : List ℕ) → k < length serials →
+    putWords 4 (putField 4 out (i + 4 * k) (getD serials k 0)) (i + 4 * (k + 1)) (drop (k + 1) serials)
+    ≡ putWords 4 out (i + 4 * k) (drop k serials)
 unfolding putWords
 store-step out i k serials p =
     let next : i + 4 * (k + 1) ≡ i + 4 * k + 4 = omega arith in
-    ap₂ (λ (at : ℕ) (vs : List ℕ). putWords 4 (putField 4 out (i + 4 * k) (getD serials k 0)) at vs) next (ap (λ (n : ℕ). drop n serials) (add-one k))
+    ap₂ (putWords 4 (putField 4 out (i + 4 * k) (getD serials k 0))) next (ap (λ (n : ℕ). drop n serials) (add-one k))
     ∙ ap (putWords 4 out (i + 4 * k)) (sym (drop-cons serials k 0 p))
 
 -- past the last line nothing is left to store

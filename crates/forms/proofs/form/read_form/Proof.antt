@@ -2,10 +2,9 @@
 -- Assumes nothing.
 use borrow.Author.Needs.{needs}
 use mathlib.Core.Path.{_≡_, sym, ap, _∙_}
-use Prim.Native.Nat.{_+_, _*_}
 use native.Mathlib.Omega.{arith}
 use denote.Ref.{now}
-use lib.ListN.{length, getD}
+use lib.ListN.{length}
 use borrow.Author.Tests.{lt-ltb, le-ltb, eq-eqb, ne-eqb}
 use Rattle.fields.specs.Field.{field}
 use Rattle.forms.specs.Form.{serialsPlace, formSize, linesOf, formNumber, formTold}
@@ -72,7 +71,8 @@ cast-t19 : tie.Need-cast-t19
 cast-t19 c = omega (arith, c .before .before .before .before .before .before .shared-slice-known2 .given 0)
 
 -- past the tests of the layout the form's number is the roster's
-number : (c : tie.After-judge) → formNumber (now (c .before .before .before .before .before .before .before .before .before .args .b)) ≡ verdictOf (c .judge .result)
+number : (c : tie.After-judge) →
+    formNumber (now (c .before .before .before .before .before .before .before .before .before .args .b)) ≡ verdictOf (c .judge .result)
 unfolding formNumber
 number c =
     let b = now (c .before .before .before .before .before .before .before .before .before .args .b) in

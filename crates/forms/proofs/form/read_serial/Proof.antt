@@ -1,4 +1,5 @@
--- `form::read_serial` meets its contract: what the reader told says whether the form is taken, and then a line below n lies inside the bytes.
+-- `form::read_serial` meets its contract: what the reader told says whether the form is taken, and then a line below n lies inside
+-- the bytes.
 -- Assumes nothing.
 use borrow.Author.Needs.{needs}
 use mathlib.Core.Path.{_≡_, sym, ap, _∙_}
@@ -32,7 +33,9 @@ add-word : tie.Need-add-word
 add-word c = search needs
 
 -- a form that the reader took has number 0, and the lines told are its own
-taken : (c : tie.After-struct-known) → (formNumber (now (c .before .before .before .before .before .before .args .b)) ≡ 0) × (c .before .before .form .given .0 .0 .lines ≡ linesOf (now (c .before .before .before .before .before .before .args .b)))
+taken : (c : tie.After-struct-known) →
+    let b = now (c .before .before .before .before .before .before .args .b) in
+    (formNumber b ≡ 0) × (c .before .before .form .given .0 .0 .lines ≡ linesOf b)
 taken c =
     let form = c .before .before .form .given .0 .0 in
     told-taken (now (c .before .before .before .before .before .before .args .b)) (form .lines) (form .faults) (form .own)

@@ -1,10 +1,10 @@
--- `form::write_form` meets its contract: a sound roster keeps the limits, so n and f are bytes, and the stores one after the other are the form.
+-- `form::write_form` meets its contract: a sound roster keeps the limits, so n and f are bytes, and the stores one after the other
+-- are the form.
 -- Assumes nothing.
 use borrow.Author.Needs.{needs}
 use mathlib.Core.Path.{_≡_, sym, ap, _∙_}
 use mathlib.Core.List.{List}
-use Prim.Native.Nat.{ℕ, _+_, _*_, _%_, _<_}
-use native.Mathlib.Nat.{add-zero}
+use Prim.Native.Nat.{ℕ}
 use native.Mathlib.Omega.{arith}
 use denote.Ref.{now}
 use lib.ListN.{length, set, length-set}
@@ -21,7 +21,8 @@ use Rattle.forms.proofs.form.write_form.Tie as tie
 
 -- the stores of the body, one after the other, are the form
 laid : (out : List ℕ) (f own : ℕ) (serials : List ℕ) → Limits f (length serials) →
-    putWords 4 (putField 4 (putField 2 (set (set out 0 (length serials)) 1 f) 2 serialsPlace) 4 own) serialsPlace serials ≡ putForm out f own serials
+    putWords 4 (putField 4 (putField 2 (set (set out 0 (length serials)) 1 f) 2 serialsPlace) 4 own) serialsPlace serials
+    ≡ putForm out f own serials
 unfolding putForm
 laid out f own serials l =
     rw (put-byte out 0 (length serials) (omega arith), put-byte (set out 0 (length serials)) 1 f (omega arith))
@@ -48,7 +49,9 @@ add-size : tie.Need-add-size
 add-size c = search needs
 
 -- past the refusal the roster is sound
-sound : (c : tie.After-enum-told) → let a = c .before .before .before .before .before .args in rosterNumber (a .f) (a .own) (now (a .serials)) ≡ 0
+sound : (c : tie.After-enum-told) →
+    let a = c .before .before .before .before .before .args in
+    rosterNumber (a .f) (a .own) (now (a .serials)) ≡ 0
 sound c = sym (c .before .before .judge-list .ensures) ∙ ap verdictOf (c .enum-told .given .1)
 
 returns-2 : tie.Need-returns-2
@@ -77,30 +80,43 @@ put-half-requires : tie.Need-put-half-requires
 put-half-requires c κs = simp length-set (omega arith)
 
 -- no store changes the length
-half-length : (c : tie.After-put-half) → length (c .put-half .last .0) ≡ length (now (c .before .before .before .before .before .before .before .before .args .out))
+half-length : (c : tie.After-put-half) →
+    length (c .put-half .last .0) ≡ length (now (c .before .before .before .before .before .before .before .before .args .out))
 half-length c = simp length-set at (c .put-half .kept .0)
 
 put-word-requires : tie.Need-put-word-requires
 put-word-requires c κs = omega (arith, half-length (c .before .before .before))
 
 put-serials-requires : tie.Need-put-serials-requires
-put-serials-requires c κs = omega (arith, c .before .before .before .put-word .kept .0, half-length (c .before .before .before .before .before .before .before))
+put-serials-requires c κs =
+    omega (
+      arith,
+      c .before .before .before .put-word .kept .0,
+      half-length (c .before .before .before .before .before .before .before),
+    )
 
 same-length : tie.Need-same-length
-same-length c = omega (arith, c .before .before .put-serials .kept .0, c .before .before .before .before .before .before .put-word .kept .0, half-length (c .before .before .before .before .before .before .before .before .before .before))
+same-length c =
+    omega (
+      arith,
+      c .before .before .put-serials .kept .0,
+      c .before .before .before .before .before .before .put-word .kept .0,
+      half-length (c .before .before .before .before .before .before .before .before .before .before),
+    )
 
 returns-3 : tie.Need-returns-3
 unfolding formWritten
 returns-3 c =
-    let a = c .before .before .before .before .before .before .before .before .before .before .before .before .before .before .before .before .before .before .args in
+    let room = c .before .before .before .before .before .before .before .before .before .before .before .before in
+    let a = room .before .before .before .before .before .before .args in
     let serials = now (a .serials) in
     rw (
-      sound (c .before .before .before .before .before .before .before .before .before .before .before .before .before),
-      le-ltb (length (now (a .out))) (formSize (length serials)) (c .before .before .before .before .before .before .before .before .before .before .before .before .if1 .left),
+      sound (room .before),
+      le-ltb (length (now (a .out))) (formSize (length serials)) (room .if1 .left),
       c .before .before .put-serials .ensures,
       c .before .before .before .before .before .before .put-word .ensures,
       c .before .before .before .before .before .before .before .before .before .before .put-half .ensures,
-      laid (now (a .out)) (a .f) (a .own) serials (bounds (c .before .before .before .before .before .before .before .before .before .before .before .before .before)),
+      laid (now (a .out)) (a .f) (a .own) serials (bounds (room .before)),
     )
 
 pub write-form-spec : {M : Type 1} → statement M

@@ -65,7 +65,8 @@ word-requires : tie.Need-word-requires
 word-requires c κs = search needs
 
 -- past the tests of the bytes the frame has its shape
-shaped : (c : tie.Else6) → misshapen (now (c .before .before .before .before .before .before .before .before .before .before .args .b)) ≡ false
+shaped : (c : tie.Else6) →
+    misshapen (now (c .before .before .before .before .before .before .before .before .before .before .args .b)) ≡ false
 shaped c =
     let b = now (c .before .before .before .before .before .before .before .before .before .before .args .b) in
     let flag₂ : not (eqb (getD b 2 0) 0) ≡ false = c .before .before .if5 .left in

@@ -52,7 +52,8 @@ returns-4 : tie.Need-returns-4
 unfolding frameWritten
 returns-4 c =
     let a = c .before .before .before .before .before .before .before .before .args in
-    let put : c .before .before .put-frame .last .0 ≡ putFrame (now (a .out)) 0 (a .kind) (a .tick) = c .before .before .put-frame .ensures in
+    let put : c .before .before .put-frame .last .0 ≡ putFrame (now (a .out)) 0 (a .kind) (a .tick) =
+    c .before .before .put-frame .ensures in
     rw (
       known-kind (a .kind) (kind (c .before .before .before .before .before .before)),
       le-ltb (a .last) (a .tick) (c .before .before .before .before .before .if3 .left),

@@ -26,7 +26,9 @@ loop-holds : tie.Need-loop-holds Inv-loop μ-loop
 loop-holds c = omega arith
 
 -- a turn leaves the column one line shorter
-shorter : (c : tie.In-loop Inv-loop μ-loop) → let s = c .before .before .before .args .stride in c .before .loop .left * s ≡ (c .before .loop .left - 1) * s + s
+shorter : (c : tie.In-loop Inv-loop μ-loop) →
+    let s = c .before .before .before .args .stride in
+    c .before .loop .left * s ≡ (c .before .loop .left - 1) * s + s
 shorter c = size-step (c .before .loop .left) (c .before .before .before .args .stride) (c .loop-test .taken)
 
 word-requires : tie.Need-word-requires Inv-loop μ-loop

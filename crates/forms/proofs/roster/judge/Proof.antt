@@ -63,7 +63,8 @@ count-twins-requires c κs = search needs
 returns-6 : tie.Need-returns-6
 returns-6 c =
     let d = c .before .before .before .before .before .before .before .before .before in
-    sym (roster-twice (d .args .f) (d .args .own) (serials d) (limits (c .before .before .before .before .before)) (omega arith) (omega arith) (omega arith))
+    let l = limits (c .before .before .before .before .before) in
+    sym (roster-twice (d .args .f) (d .args .own) (serials d) l (omega arith) (omega arith) (omega arith))
 
 count-word-requires-2 : tie.Need-count-word-requires-2
 count-word-requires-2 c κs = search needs
@@ -71,12 +72,14 @@ count-word-requires-2 c κs = search needs
 returns-7 : tie.Need-returns-7
 returns-7 c =
     let d = c .before .before .before .before .before .before .before .before .before .before .before in
-    sym (roster-stranger (d .args .f) (d .args .own) (serials d) (limits (c .before .before .before .before .before .before .before)) (omega arith) (omega arith) (omega arith) (omega arith))
+    let l = limits (c .before .before .before .before .before .before .before) in
+    sym (roster-stranger (d .args .f) (d .args .own) (serials d) l (omega arith) (omega arith) (omega arith) (omega arith))
 
 returns-8 : tie.Need-returns-8
 returns-8 c =
     let d = c .before .before .before .before .before .before .before .before .before .before .before in
-    sym (roster-sound (d .args .f) (d .args .own) (serials d) (limits (c .before .before .before .before .before .before .before)) (omega arith) (omega arith) (omega arith) (omega arith))
+    let l = limits (c .before .before .before .before .before .before .before) in
+    sym (roster-sound (d .args .f) (d .args .own) (serials d) l (omega arith) (omega arith) (omega arith) (omega arith))
 
 pub judge-spec : {M : Type 1} → statement M
 judge-spec =

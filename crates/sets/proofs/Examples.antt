@@ -1,39 +1,55 @@
--- The definitions of a set at work on 01's example W10 and on the window's edges, computed by the checker.
+-- The definitions of a set at work on 01's example W10 and on the window's edges, computed by the checker. The window is as wide
+-- as a mask has bits, which is 01's width.
 -- Assumes nothing.
 use mathlib.Core.Path.{_≡_, refl}
-use Prim.Native.Nat.{ℕ, _+_, _^_}
+use Prim.Native.Nat.{ℕ, zero, suc, _+_, _^_}
 use mathlib.Core.List.{List, [], _∷_}
 use mathlib.Core.Bool.{true, false}
+use Rattle.fields.specs.Kind.{INIT, ECHO}
+use Rattle.sets.specs.Sets.{maskBits}
 use Rattle.sets.specs.Ticks.{Held, empty, bit, raised, marked, holds, insert, insertAll, run, added, add, proper}
 
 -- the ticks of a set among those below n, the greatest first
-ticksBelow : ℕ → ℕ → Held → List ℕ
+ticksBelow : ℕ → Held → List ℕ
 unfolding holds bit
-ticksBelow w Prim.Native.Nat.zero s = []
-ticksBelow w (Prim.Native.Nat.suc n) s = elim (holds w s n) [ Prim.Native.Nat.zero ↦ ticksBelow w n s | Prim.Native.Nat.suc k ↦ n ∷ ticksBelow w n s ]
+ticksBelow zero s = []
+ticksBelow (suc n) s = elim (holds maskBits s n) [ zero ↦ ticksBelow n s | suc k ↦ n ∷ ticksBelow n s ]
+
+abbrev after : ℕ → Held → ℕ → Held
+after kind s j = add maskBits kind s j
 
 -- what 22 has sent when W10 begins: echo 0, then echo 6
 before : Held
-before = add 64 2 (add 64 2 empty 0) 6
+before = after ECHO (after ECHO empty 0) 6
 
 w10 :
-    (ticksBelow 64 80 before ≡ 6 ∷ 5 ∷ 4 ∷ 0 ∷ []) × (ticksBelow 64 80 (add 64 2 before 69) ≡ 69 ∷ 68 ∷ 67 ∷ 6 ∷ [])
-    × (ticksBelow 64 80 (add 64 2 before 70) ≡ 70 ∷ 69 ∷ 68 ∷ [])
+    (ticksBelow 80 before ≡ 6 ∷ 5 ∷ 4 ∷ 0 ∷ []) × (ticksBelow 80 (after ECHO before 69) ≡ 69 ∷ 68 ∷ 67 ∷ 6 ∷ [])
+    × (ticksBelow 80 (after ECHO before 70) ≡ 70 ∷ 69 ∷ 68 ∷ [])
 unfolding ticksBelow before add added run insertAll insert raised marked bit holds
 w10 = (refl, refl, refl)
 
+-- a set whose top is 01's last tick
+far : ℕ → Held
+far mask = record { top = 4000000000; mask = mask }
+
 -- an init adds one tick; a frame below the window changes nothing; a jump of any size drops the rest
 edges :
-    (add 64 1 before 7 ≡ record { top = 7; mask = 143 }) × (add 64 2 (record { top = 200; mask = 1 }) 0 ≡ record { top = 200; mask = 1 })
-    × (add 64 2 before 4000000000 ≡ record { top = 4000000000; mask = 7 }) × (add 64 2 (add 64 2 empty 4000000000) 0 ≡ record { top = 4000000000; mask = 7 })
-    × (add 64 2 (record { top = 100; mask = 1 }) 38 ≡ record { top = 100; mask = 1 + 2 ^ 62 + 2 ^ 63 })
-unfolding before add added run insertAll insert raised marked bit
+    (after INIT before 7 ≡ record { top = 7; mask = 143 })
+    × (after ECHO (record { top = 200; mask = 1 }) 0 ≡ record { top = 200; mask = 1 })
+    × (after ECHO before 4000000000 ≡ far 7)
+    × (after ECHO (after ECHO empty 4000000000) 0 ≡ far 7)
+    × (after ECHO (record { top = 100; mask = 1 }) 38 ≡ record { top = 100; mask = 1 + 2 ^ 62 + 2 ^ 63 })
+unfolding far before add added run insertAll insert raised marked bit
 edges = (refl, refl, refl, refl, refl)
 
 -- bit 63 below top 62 would be a tick below 0
 shapes :
-    (proper 64 (record { top = 62; mask = 2 ^ 63 + 1 }) ≡ false) × (proper 64 (record { top = 63; mask = 2 ^ 63 + 1 }) ≡ true)
-    × (proper 64 empty ≡ true) × (proper 64 (record { top = 1; mask = 0 }) ≡ false) × (proper 64 (record { top = 5; mask = 2 }) ≡ false)
-    × (proper 64 (record { top = 0; mask = 1 }) ≡ true) × (proper 64 (record { top = 4000000000; mask = 2 ^ 64 }) ≡ false)
-unfolding proper
+    (proper maskBits (record { top = 62; mask = 2 ^ 63 + 1 }) ≡ false)
+    × (proper maskBits (record { top = 63; mask = 2 ^ 63 + 1 }) ≡ true)
+    × (proper maskBits empty ≡ true)
+    × (proper maskBits (record { top = 1; mask = 0 }) ≡ false)
+    × (proper maskBits (record { top = 5; mask = 2 }) ≡ false)
+    × (proper maskBits (record { top = 0; mask = 1 }) ≡ true)
+    × (proper maskBits (far (2 ^ maskBits)) ≡ false)
+unfolding far proper
 shapes = (refl, refl, refl, refl, refl, refl, refl)

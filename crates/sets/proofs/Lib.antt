@@ -4,3 +4,4 @@ pub mod Added
 pub mod Histories
 pub mod Masks
 pub mod Members
+pub mod Single

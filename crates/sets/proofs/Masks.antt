@@ -1,9 +1,10 @@
 -- Laws of a mask's bits, over every width: a bit of a number by halving it, of a shifted, a cut and a marked one, and that a
 -- number is its bits.
 -- Assumes nothing.
-use mathlib.Core.Path.{_≡_, refl, sym, ap, ap₂, _∙_, subst}
+use mathlib.Core.Path.{_≡_, refl, sym, ap, ap₂, _∙_}
 use Prim.Native.Nat.{ℕ, zero, suc, _+_, _-_, _*_, _/_, _%_, _^_, _≤_, _<_}
-use native.Mathlib.Nat.{pow-suc, pow-succ', div-div-eq-div-mul, div-one, div-eq-of-lt, lt-of-lt-of-le, mul-assoc, add-suc, add-zero, mod-lt, mod-le, mod-eq-of-lt, one-mul}
+use native.Mathlib.Nat.{pow-suc, pow-succ', div-div-eq-div-mul, div-one, div-eq-of-lt, lt-of-lt-of-le, mul-assoc}
+use native.Mathlib.Nat.{add-suc, add-zero, lt-of-le-of-lt, mod-lt, mod-le, mod-eq-of-lt, one-mul}
 use native.Mathlib.Omega.{arith}
 use lib.Pow.{pow-pos, pow-mono, pow-lt, mod-mod-pow, shl-lt}
 use lib.Arith.{mod-mul}
@@ -30,7 +31,9 @@ bit-out m k i p q = ap (λ (x : ℕ). x % 2) (div-eq-of-lt (lt-of-lt-of-le p (po
 pub bits-same : (w m n : ℕ) → m < 2 ^ w → n < 2 ^ w → ((i : ℕ) → i < w → bit m i ≡ bit n i) → m ≡ n
 bits-same zero m n p q h = omega arith
 bits-same (suc w) m n p q h =
-    join (bits-same w (m / 2) (n / 2) (omega (arith, pow-suc 2 w)) (omega (arith, pow-suc 2 w)) (λ i r. sym (bit-suc m i) ∙ h (suc i) (omega arith) ∙ bit-suc n i))
+    join
+    (bits-same w (m / 2) (n / 2) (omega (arith, pow-suc 2 w)) (omega (arith, pow-suc 2 w))
+    (λ i r. sym (bit-suc m i) ∙ h (suc i) (omega arith) ∙ bit-suc n i))
     (sym (bit-zero m) ∙ h 0 (omega arith) ∙ bit-zero n)
   where
     join : m / 2 ≡ n / 2 → m % 2 ≡ n % 2 → m ≡ n
@@ -38,10 +41,10 @@ bits-same (suc w) m n p q h =
 
 -- ---- a number and a lowest bit
 
-pub bit-low : (m r : ℕ) → r < 2 → bit (m * 2 + r) 0 ≡ r
+bit-low : (m r : ℕ) → r < 2 → bit (m * 2 + r) 0 ≡ r
 bit-low m r p = bit-zero (m * 2 + r) ∙ omega arith
 
-pub bit-high : (m r i : ℕ) → r < 2 → bit (m * 2 + r) (suc i) ≡ bit m i
+bit-high : (m r i : ℕ) → r < 2 → bit (m * 2 + r) (suc i) ≡ bit m i
 bit-high m r i p = bit-suc (m * 2 + r) i ∙ ap (λ (x : ℕ). bit x i) halved
   where
     halved : (m * 2 + r) / 2 ≡ m
@@ -71,15 +74,20 @@ pub cut-at : (w m i : ℕ) → i < w → bit (m % 2 ^ w) i ≡ bit m i
 cut-at zero m i p = absurd (omega arith)
 cut-at (suc w) m zero p = ap (λ (x : ℕ). bit x 0) (halves w m) ∙ bit-low (m / 2 % 2 ^ w) (m % 2) (omega arith) ∙ sym (bit-zero m)
 cut-at (suc w) m (suc i) p =
-    ap (λ (x : ℕ). bit x (suc i)) (halves w m) ∙ bit-high (m / 2 % 2 ^ w) (m % 2) i (omega arith) ∙ cut-at w (m / 2) i (omega arith) ∙ sym (bit-suc m i)
+    ap (λ (x : ℕ). bit x (suc i)) (halves w m) ∙ bit-high (m / 2 % 2 ^ w) (m % 2) i (omega arith)
+    ∙ cut-at w (m / 2) i (omega arith) ∙ sym (bit-suc m i)
 
 -- ---- marked
 
 marked-suc : (m d : ℕ) → marked m (suc d) ≡ marked (m / 2) d * 2 + m % 2
 unfolding marked
 marked-suc m d =
-    omega
-    (arith, ap (λ (x : ℕ). (1 - x) * 2 ^ suc d) (bit-suc m d), ap (λ (x : ℕ). (1 - bit (m / 2) d) * x) (pow-suc 2 d), mul-assoc (1 - bit (m / 2) d) (2 ^ d) 2)
+    omega (
+      arith,
+      ap (λ (x : ℕ). (1 - x) * 2 ^ suc d) (bit-suc m d),
+      ap (λ (x : ℕ). (1 - bit (m / 2) d) * x) (pow-suc 2 d),
+      mul-assoc (1 - bit (m / 2) d) (2 ^ d) 2,
+    )
 
 marked-zero : (m : ℕ) → marked m 0 ≡ m / 2 * 2 + 1
 unfolding marked
@@ -97,8 +105,8 @@ marked-other m zero (suc i) ne =
 marked-other m (suc d) zero ne =
     ap (λ (x : ℕ). bit x 0) (marked-suc m d) ∙ bit-low (marked (m / 2) d) (m % 2) (omega arith) ∙ sym (bit-zero m)
 marked-other m (suc d) (suc i) ne =
-    ap (λ (x : ℕ). bit x (suc i)) (marked-suc m d) ∙ bit-high (marked (m / 2) d) (m % 2) i (omega arith) ∙ marked-other (m / 2) d i (λ e. ne (ap suc e))
-    ∙ sym (bit-suc m i)
+    ap (λ (x : ℕ). bit x (suc i)) (marked-suc m d) ∙ bit-high (marked (m / 2) d) (m % 2) i (omega arith)
+    ∙ marked-other (m / 2) d i (λ e. ne (ap suc e)) ∙ sym (bit-suc m i)
 
 pub marked-lt : (m d k : ℕ) → d < k → m < 2 ^ k → marked m d < 2 ^ k
 marked-lt m d zero p q = absurd (omega arith)
@@ -135,18 +143,15 @@ raised-lt w m d p q = odd-lt (m * 2 ^ d % 2 ^ w) w p (raised-even w m d p q) (mo
 pub raised-low : (w m d k : ℕ) → 0 < w → 0 < d → m < 2 ^ k → raised w m d < 2 ^ (k + d)
 unfolding raised
 raised-low w m d k p q h =
-    odd-lt (m * 2 ^ d % 2 ^ w) (k + d) (omega arith) (raised-even w m d p q) (lt (mod-le (m * 2 ^ d) (2 ^ w)) (shl-lt k d h))
+    odd-lt (m * 2 ^ d % 2 ^ w) (k + d) (omega arith) (raised-even w m d p q) (lt-of-le-of-lt (mod-le (m * 2 ^ d) (2 ^ w)) (shl-lt k d h))
+
+-- ---- what a word of n bits computes
+
+pub lone : (n d : ℕ) → d < n → 1 * 2 ^ d % 2 ^ n ≡ 2 ^ d
+lone n d p = ap (λ (x : ℕ). x % 2 ^ n) (one-mul (2 ^ d)) ∙ mod-eq-of-lt (pow-lt p)
+
+pub cut-wide : (n w x : ℕ) → w ≤ n → x % 2 ^ n % 2 ^ w ≡ x % 2 ^ w
+cut-wide n w x p = ap (λ (k : ℕ). x % 2 ^ k % 2 ^ w) whole ∙ mod-mod-pow x (n - w) w
   where
-    lt : {a b c : ℕ} → a ≤ b → b < c → a < c
-    lt x y = omega arith
-
--- ---- what a word of 64 bits computes
-
-pub lone : (d : ℕ) → d < 64 → 1 * 2 ^ d % 2 ^ 64 ≡ 2 ^ d
-lone d p = ap (λ (x : ℕ). x % 2 ^ 64) (one-mul (2 ^ d)) ∙ mod-eq-of-lt (pow-lt p)
-
-pub cut-wide : (w x : ℕ) → w ≤ 64 → x % 2 ^ 64 % 2 ^ w ≡ x % 2 ^ w
-cut-wide w x p = ap (λ (k : ℕ). x % 2 ^ k % 2 ^ w) (whole p) ∙ mod-mod-pow x (64 - w) w
-  where
-    whole : w ≤ 64 → 64 ≡ 64 - w + w
-    whole q = omega arith
+    whole : n ≡ n - w + w
+    whole = omega arith

@@ -1,10 +1,12 @@
 -- A set of ticks held from one sender (01, "Evidence"): a top, and a mask of which bit i says that tick top - i is held. The
 -- empty set has top 0 and mask 0. One definition serves echo and init, and every width w of the window.
--- proofs/Members.antt shows what these definitions mean: who is a member, and that order and repetition decide nothing.
+-- proofs/Members.antt shows what these definitions mean: who is a member after an insertion, and that a proper set is its
+-- members. proofs/Histories.antt shows that order and repetition decide nothing.
 use Prim.Native.Nat.{ℕ, zero, suc, _+_, _-_, _*_, _/_, _%_, _^_, min}
 use mathlib.Core.List.{List, [], _∷_}
 use mathlib.Core.Bool.{Bool, cond, _&&_}
 use lib.Dec.{ltb, leb, eqb}
+use Rattle.fields.specs.Kind.{ECHO}
 
 pub record Held : Type 0 where
   pub top : ℕ
@@ -48,9 +50,12 @@ run zero j = []
 run (suc c) zero = 0 ∷ []
 run (suc c) (suc j) = suc j ∷ run c j
 
--- the ticks that a frame of a kind adds: (echo, j), kind 2, adds j, j - 1 and j - 2; (init, j) adds j only
+-- the ticks that a frame of a kind adds: (echo, j) adds j, j - 1 and j - 2; (init, j) adds j only
+abbrev pub manyAdded : ℕ → ℕ
+manyAdded kind = cond (eqb kind ECHO) 3 1
+
 unfoldable pub added : ℕ → ℕ → List ℕ
-added kind j = run (cond (eqb kind 2) 3 1) j
+added kind j = run (manyAdded kind) j
 
 -- the set after a frame of its kind
 unfoldable pub add : ℕ → ℕ → Held → ℕ → Held

@@ -1,21 +1,33 @@
-// A set of ticks by value: top and mask, bit i of the mask for tick top - i. The mask is a word of 64 bits, so each function asks
-// that the window is at least 1 and at most 64: a joint between layers, since only the node knows the window.
+// A set of ticks by value: top and mask, bit i of the mask for tick top - i. Each function asks that the window is at most as wide
+// as a mask has bits, and at least 1 where it adds: a joint between layers, since only the node knows the window.
+use fields::kind::ECHO;
 ghost use mathlib.Core.Path.{_≡_};
 ghost use Prim.Native.Nat.{_+_, _≤_, _<_, _%_, _^_, min};
 ghost use Rattle.sets.specs.Ticks.{empty, holds, insert, add, proper};
-ghost use Rattle.sets.specs.Sets.{heldBy};
+ghost use Rattle.sets.specs.Sets.{maskBits, heldBy};
 
 pub struct Ticks {
     pub top: u32,
     pub mask: u64,
 }
 
+// The sizes of a set, as specs/Sets.antt has them.
+impl Ticks {
+    // bytes of a mask, and its bits
+    pub const BYTES: usize = 8;
+
+    pub const BITS: u32 = 8 * (Ticks::BYTES as u32);
+
+    // how many ticks a top can tell apart
+    pub const COUNT: u64 = 1 << 32;
+}
+
 // The low w bits of a mask.
 pub fn cut(w: u32, m: u64) -> u64
-    requires { ⌜ w ≤ 64 ⌝ }
+    requires { ⌜ w ≤ maskBits ⌝ }
     ensures { λ r. ⌜ r ≡ m % 2 ^ w ⌝ }
 {
-    if w < 64 { m % (1u64 << w) } else { m }
+    if w < Ticks::BITS { m % (1u64 << w) } else { m }
 }
 
 // How many bits a mask may have: as many as the window is wide, and none for a tick below 0.
@@ -35,7 +47,7 @@ impl Ticks {
 
     // 1 where tick t is held, else 0.
     pub fn holds(self, w: u32, t: u32) -> u32
-        requires { ⌜ w ≤ 64 ⌝ }
+        requires { ⌜ w ≤ maskBits ⌝ }
         ensures { λ r. ⌜ (r ≡ holds w (heldBy self) t) × (r ≤ 1) ⌝ }
     {
         let top = self.top;
@@ -51,8 +63,8 @@ impl Ticks {
     }
 
     // The set with tick t.
-    pub fn with(self, w: u32, t: u32) -> Ticks
-        requires { ⌜ (0 < w) × (w ≤ 64) ⌝ }
+    fn with(self, w: u32, t: u32) -> Ticks
+        requires { ⌜ (0 < w) × (w ≤ maskBits) ⌝ }
         ensures { λ r. ⌜ heldBy r ≡ insert w (heldBy self) t ⌝ }
     {
         let top = self.top;
@@ -82,11 +94,11 @@ impl Ticks {
 
     // The set after a frame of its kind: an echo brings three ticks, an init one.
     pub fn after(self, w: u32, kind: u32, j: u32) -> Ticks
-        requires { ⌜ (0 < w) × (w ≤ 64) ⌝ }
+        requires { ⌜ (0 < w) × (w ≤ maskBits) ⌝ }
         ensures { λ r. ⌜ heldBy r ≡ add w kind (heldBy self) j ⌝ }
     {
         let first = self.with(w, j);
-        if kind != 2 {
+        if kind != ECHO {
             return first;
         }
         if j == 0 {
@@ -102,7 +114,7 @@ impl Ticks {
     // Whether an image may hold this set: no bit outside the window or above the top, bit 0 set unless the set is empty, and the
     // empty set with top 0.
     pub fn is_proper(self, w: u32) -> bool
-        requires { ⌜ w ≤ 64 ⌝ }
+        requires { ⌜ w ≤ maskBits ⌝ }
         ensures { λ r. ⌜ r ≡ proper w (heldBy self) ⌝ }
     {
         let top = self.top;
@@ -114,7 +126,7 @@ impl Ticks {
             return false;
         }
         let bits = reach(w, top);
-        if bits < 64 {
+        if bits < Ticks::BITS {
             return mask < (1u64 << bits);
         }
         true

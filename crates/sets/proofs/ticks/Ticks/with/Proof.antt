@@ -7,9 +7,8 @@ use native.Mathlib.Nat.{lt-of-lt-of-le, lt-of-le-of-lt, mul-le-mul-right, sub-le
 use native.Mathlib.Omega.{arith}
 use lib.Dec.{lit<}
 use lib.Pow.{pow-mono}
-use mir.Val.{Fits}
-use Rattle.sets.specs.Ticks.{Held, bit, raised, marked}
-use Rattle.sets.specs.Sets.{heldBy}
+use Rattle.sets.specs.Ticks.{bit, raised, marked}
+use Rattle.sets.specs.Sets.{maskBits, heldBy}
 use Rattle.sets.proofs.Masks.{lone, cut-wide, raised-lt, marked-lt}
 use Rattle.sets.proofs.Members.{insert-near, insert-far, insert-in, insert-late}
 use Rattle.sets.proofs.ticks.Ticks.with.Statement.{statement}
@@ -28,23 +27,34 @@ cut-requires : tie.Need-cut-requires
 cut-requires c κs = search needs
 
 -- the mask of a top that rises
-up-mask : (c : tie.After-cut) → c .cut .result + 1 ≡ raised (c .before .before .before .args .w) (c .before .before .before .args .self .mask) (c .before .before .before .args .t - c .before .before .before .args .self .top)
+up-mask :
+    (c : tie.After-cut) →
+    let a = c .before .before .before .args in
+    c .cut .result + 1 ≡ raised (a .w) (a .self .mask) (a .t - a .self .top)
 unfolding raised
 up-mask c =
     let a = c .before .before .before .args in
-    ap (λ (x : ℕ). x + 1) (c .cut .ensures ∙ cut-wide (a .w) (a .self .mask * 2 ^ (a .t - a .self .top)) (c .before .before .before .pre .1))
+    ap (λ (x : ℕ). x + 1)
+    (c .cut .ensures ∙ cut-wide maskBits (a .w) (a .self .mask * 2 ^ (a .t - a .self .top)) (c .before .before .before .pre .1))
 
 -- the mask of a top that stays
-in-mask : (c : tie.Then3) → c .before .before .args .self .mask + (1 - c .before .before .args .self .mask / 2 ^ (c .before .before .args .self .top - c .before .before .args .t) % 2) * (1 * 2 ^ (c .before .before .args .self .top - c .before .before .args .t) % 2 ^ 64) ≡ marked (c .before .before .args .self .mask) (c .before .before .args .self .top - c .before .before .args .t)
+in-mask :
+    (c : tie.Then3) →
+    let a = c .before .before .args in
+    let down = a .self .top - a .t in
+    a .self .mask + (1 - a .self .mask / 2 ^ down % 2) * (1 * 2 ^ down % 2 ^ maskBits) ≡ marked (a .self .mask) down
 unfolding marked bit
 in-mask c =
     let a = c .before .before .args in
-    ap (λ (x : ℕ). a .self .mask + (1 - a .self .mask / 2 ^ (a .self .top - a .t) % 2) * x) (lone (a .self .top - a .t) (omega arith))
+    let down = a .self .top - a .t in
+    ap (λ (x : ℕ). a .self .mask + (1 - a .self .mask / 2 ^ down % 2) * x) (lone maskBits down (omega arith))
 
 add-t15 : tie.Need-add-t15
 add-t15 c =
     let a = c .before .before .before .args in
-    record { fits = subst (λ (x : ℕ). x < 2 ^ 64) (sym (up-mask c)) (lt-of-lt-of-le (raised-lt (a .w) (a .self .mask) (a .t - a .self .top) (c .before .before .before .pre .0) (omega arith)) (pow-mono (c .before .before .before .pre .1))) }
+    let pre = c .before .before .before .pre in
+    let small = raised-lt (a .w) (a .self .mask) (a .t - a .self .top) (pre .0) (omega arith) in
+    record { fits = subst (λ (x : ℕ). x < 2 ^ maskBits) (sym (up-mask c)) (lt-of-lt-of-le small (pow-mono (pre .1))) }
 
 cast-t18 : tie.Need-cast-t18
 cast-t18 c = search needs
@@ -64,19 +74,25 @@ shl-t23 c = search needs
 mul-t24 : tie.Need-mul-t24
 mul-t24 c =
     let a = c .before .before .args in
-    let b = a .self .mask / 2 ^ (a .self .top - a .t) % 2 in
-    let p = 1 * 2 ^ (a .self .top - a .t) % 2 ^ 64 in
-    record { fits = lt-of-le-of-lt (mul-le-mul-right p (sub-le 1 b)) (subst (λ (x : ℕ). x < 2 ^ 64) (sym (one-mul p)) (mod-lt (1 * 2 ^ (a .self .top - a .t)) (lit< tt))) }
+    let down = a .self .top - a .t in
+    let p = 1 * 2 ^ down % 2 ^ maskBits in
+    record {
+      fits =
+          lt-of-le-of-lt (mul-le-mul-right p (sub-le 1 (a .self .mask / 2 ^ down % 2)))
+          (subst (λ (x : ℕ). x < 2 ^ maskBits) (sym (one-mul p)) (mod-lt (1 * 2 ^ down) (lit< tt)));
+    }
 
 add-t25 : tie.Need-add-t25
 add-t25 c =
     let a = c .before .before .args in
-    record { fits = subst (λ (x : ℕ). x < 2 ^ 64) (sym (in-mask c)) (marked-lt (a .self .mask) (a .self .top - a .t) 64 (omega arith) (search needs)) }
+    let small = marked-lt (a .self .mask) (a .self .top - a .t) maskBits (omega arith) (search needs) in
+    record { fits = subst (λ (x : ℕ). x < 2 ^ maskBits) (sym (in-mask c)) small }
 
 returns : tie.Need-returns
 returns c =
     let a = c .before .before .before .args in
-    ap (λ (x : ℕ). heldBy (record { top = a .t; mask = x })) (up-mask c) ∙ sym (insert-near (a .w) (heldBy (a .self)) (a .t) (c .before .before .if1 .taken) (c .before .if2 .taken))
+    ap (λ (x : ℕ). heldBy (record { top = a .t; mask = x })) (up-mask c)
+    ∙ sym (insert-near (a .w) (heldBy (a .self)) (a .t) (c .before .before .if1 .taken) (c .before .if2 .taken))
 
 returns-2 : tie.Need-returns-2
 returns-2 c =
@@ -86,7 +102,8 @@ returns-2 c =
 returns-3 : tie.Need-returns-3
 returns-3 c =
     let a = c .before .before .args in
-    ap (λ (x : ℕ). heldBy (record { top = a .self .top; mask = x })) (in-mask c) ∙ sym (insert-in (a .w) (heldBy (a .self)) (a .t) (c .before .if1 .left) (c .if3 .taken))
+    ap (λ (x : ℕ). heldBy (record { top = a .self .top; mask = x })) (in-mask c)
+    ∙ sym (insert-in (a .w) (heldBy (a .self)) (a .t) (c .before .if1 .left) (c .if3 .taken))
 
 returns-4 : tie.Need-returns-4
 returns-4 c =

@@ -2,14 +2,12 @@
 -- Assumes nothing.
 use mathlib.Core.Path.{_≡_, refl, sym, ap, _∙_, subst}
 use mathlib.Core.Logic.{_⊎_, inl, inr}
-use mathlib.Core.Bool.{Bool, true, false, cond}
+use mathlib.Core.Bool.{Bool, true, false}
 use mathlib.Core.List.{List, [], _∷_}
 use Prim.Native.Nat.{ℕ, zero, suc, _+_, _-_, _≤_, _<_, max}
 use native.Mathlib.Decide.{decLe}
 use native.Mathlib.Omega.{arith}
 use borrow.Author.Tests.{le-leb, lt-leb}
-use lib.Dec.{leb}
-use Rattle.sets.specs.Ticks.{Held}
 use Rattle.evidence.specs.Rows.{Row, setOf}
 use Rattle.evidence.specs.Holders.{firstDown, bestOf, bestAmong}
 
@@ -44,11 +42,14 @@ module _ (passes : ℕ → Bool) where
       less n = omega arith
 
   -- what is found is above low
-  pub down-above : (low c x : ℕ) → (firstDown passes low c x ≡ 0) ⊎ (low < firstDown passes low c x)
+  down-above : (low c x : ℕ) → (firstDown passes low c x ≡ 0) ⊎ (low < firstDown passes low c x)
   down-above low zero x = inl (down-none low x)
   down-above low (suc c) x = go (decLe x low) (passes (x - 1)) refl (down-above low c (x - 1))
     where
-      go : Dec (x ≤ low) → (b : Bool) → passes (x - 1) ≡ b → (firstDown passes low c (x - 1) ≡ 0) ⊎ (low < firstDown passes low c (x - 1)) → (firstDown passes low (suc c) x ≡ 0) ⊎ (low < firstDown passes low (suc c) x)
+      go :
+          Dec (x ≤ low) → (b : Bool) → passes (x - 1) ≡ b →
+          (firstDown passes low c (x - 1) ≡ 0) ⊎ (low < firstDown passes low c (x - 1)) →
+          (firstDown passes low (suc c) x ≡ 0) ⊎ (low < firstDown passes low (suc c) x)
       go (yes p) b e h = inl (down-end low (suc c) x p)
       go (no p) true e h = inr (subst (λ (y : ℕ). low < y) (sym (down-hit low (suc c) x (omega arith) (omega arith) e)) (omega arith))
       go (no p) false e h = subst (λ (y : ℕ). (y ≡ 0) ⊎ (low < y)) (sym (down-suc low c x (omega arith) e)) h

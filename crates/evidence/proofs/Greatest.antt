@@ -23,7 +23,11 @@ module _ (passes : ℕ → Bool) (low : ℕ) where
   down-passes zero x t e = absurd (omega arith)
   down-passes (suc c) x t e = go (leb x low) refl (passes (x - 1)) refl (down-passes c (x - 1) t) e
     where
-      go : (a : Bool) → leb x low ≡ a → (b : Bool) → passes (x - 1) ≡ b → (firstDown passes low c (x - 1) ≡ suc t → (low ≤ t) × (passes t ≡ true)) → cond a 0 (cond b x (firstDown passes low c (x - 1))) ≡ suc t → (low ≤ t) × (passes t ≡ true)
+      go :
+          (a : Bool) → leb x low ≡ a → (b : Bool) → passes (x - 1) ≡ b →
+          (firstDown passes low c (x - 1) ≡ suc t → (low ≤ t) × (passes t ≡ true)) →
+          cond a 0 (cond b x (firstDown passes low c (x - 1))) ≡ suc t →
+          (low ≤ t) × (passes t ≡ true)
       go true p b q ih f = absurd (omega arith)
       go false p true q ih f = (omega (arith, leb-false x low p), subst (λ (n : ℕ). passes n ≡ true) (omega arith) q)
       go false p false q ih f = ih f
@@ -34,7 +38,10 @@ module _ (passes : ℕ → Bool) (low : ℕ) where
   down-most zero x t l p q e = absurd (omega arith)
   down-most (suc c) x t l p q e = go (leb x low) refl (passes (x - 1)) refl (λ r. down-most c (x - 1) t l r (omega arith) e)
     where
-      go : (a : Bool) → leb x low ≡ a → (b : Bool) → passes (x - 1) ≡ b → (t < x - 1 → t < firstDown passes low c (x - 1)) → t < cond a 0 (cond b x (firstDown passes low c (x - 1)))
+      go :
+          (a : Bool) → leb x low ≡ a → (b : Bool) → passes (x - 1) ≡ b →
+          (t < x - 1 → t < firstDown passes low c (x - 1)) →
+          t < cond a 0 (cond b x (firstDown passes low c (x - 1)))
       go true f b g ih = absurd (omega (arith, leb-true x low f))
       go false f true g ih = p
       go false f false g ih = ih (elim (ℕ-discrete t (x - 1)) [ yes d ↦ absurd (never d) | no n ↦ omega arith ])
@@ -55,7 +62,8 @@ module _ (w kind m low : ℕ) where
   module _ (all : List Row) (t : ℕ) where
     -- ---- of one set
 
-    pub best-held : (s : Held) → bestOf w kind m low all s ≡ suc t → (low ≤ t) × (m ≤ holders w kind t all) × (holds w s t ≡ 1)
+    pub best-held :
+        (s : Held) → bestOf w kind m low all s ≡ suc t → (low ≤ t) × (m ≤ holders w kind t all) × (holds w s t ≡ 1)
     unfolding bestOf
     best-held s e =
         let found = down-passes _ low w (s .top + 1) t e in
@@ -67,11 +75,14 @@ module _ (w kind m low : ℕ) where
     unfolding bestOf
     best-most s l p e =
         let near = held-place w s t e in
-        down-most _ low w (s .top + 1) t l (omega arith) (omega arith) (and-eq-true-iff (eqb (holds w s t) 1) (leb m (holders w kind t all)) .1 (eq-eqb _ _ e, le-leb _ _ p))
+        let both = and-eq-true-iff (eqb (holds w s t) 1) (leb m (holders w kind t all)) .1 (eq-eqb _ _ e, le-leb _ _ p) in
+        down-most _ low w (s .top + 1) t l (omega arith) (omega arith) both
 
     -- ---- over rows
 
-    among-held : (rows : List Row) → bestAmong w kind m low all rows ≡ suc t → (low ≤ t) × (m ≤ holders w kind t all) × (0 < holders w kind t rows)
+    among-held :
+        (rows : List Row) → bestAmong w kind m low all rows ≡ suc t →
+        (low ≤ t) × (m ≤ holders w kind t all) × (0 < holders w kind t rows)
     unfolding bestAmong holders
     among-held [] e = absurd (omega arith)
     among-held (row ∷ rows) e =
@@ -80,7 +91,8 @@ module _ (w kind m low : ℕ) where
           | no n ↦ let later = among-held rows (omega arith) in (later .0, later .1, omega arith)
         ]
 
-    among-most : (rows : List Row) → low ≤ t → m ≤ holders w kind t all → 0 < holders w kind t rows → t < bestAmong w kind m low all rows
+    among-most :
+        (rows : List Row) → low ≤ t → m ≤ holders w kind t all → 0 < holders w kind t rows → t < bestAmong w kind m low all rows
     unfolding bestAmong holders
     among-most [] l p h = absurd (omega arith)
     among-most (row ∷ rows) l p h =
@@ -92,22 +104,28 @@ module _ (w kind m low : ℕ) where
   module _ (rows : List Row) where
     -- ---- the greatest tick
 
-    pub greatest-held : (t : ℕ) → greatest w kind m low rows ≡ suc t → (low ≤ t) × (m ≤ holders w kind t rows) × (0 < holders w kind t rows)
+    pub greatest-held :
+        (t : ℕ) → greatest w kind m low rows ≡ suc t → (low ≤ t) × (m ≤ holders w kind t rows) × (0 < holders w kind t rows)
     unfolding greatest
     greatest-held t e = among-held rows t rows e
 
-    pub greatest-most : (t : ℕ) → low ≤ t → m ≤ holders w kind t rows → 0 < holders w kind t rows → t < greatest w kind m low rows
+    pub greatest-most :
+        (t : ℕ) → low ≤ t → m ≤ holders w kind t rows → 0 < holders w kind t rows → t < greatest w kind m low rows
     unfolding greatest
     greatest-most t l p h = among-most rows t rows l p h
 
-    pub greatest-none : ((t : ℕ) → low ≤ t → m ≤ holders w kind t rows → 0 < holders w kind t rows → ⊥) → greatest w kind m low rows ≡ 0
+    pub greatest-none :
+        ((t : ℕ) → low ≤ t → m ≤ holders w kind t rows → 0 < holders w kind t rows → ⊥) → greatest w kind m low rows ≡ 0
     greatest-none f = go (greatest w kind m low rows) refl
       where
         go : (n : ℕ) → greatest w kind m low rows ≡ n → n ≡ 0
         go zero e = refl
         go (suc t) e = let found = greatest-held t e in absurd (f t (found .0) (found .1) (found .2))
 
-    pub greatest-is : (t : ℕ) → low ≤ t → m ≤ holders w kind t rows → 0 < holders w kind t rows → ((u : ℕ) → t < u → m ≤ holders w kind u rows → 0 < holders w kind u rows → ⊥) → greatest w kind m low rows ≡ suc t
+    pub greatest-is :
+        (t : ℕ) → low ≤ t → m ≤ holders w kind t rows → 0 < holders w kind t rows →
+        ((u : ℕ) → t < u → m ≤ holders w kind u rows → 0 < holders w kind u rows → ⊥) →
+        greatest w kind m low rows ≡ suc t
     greatest-is t l p h f = go (greatest w kind m low rows) refl
       where
         go : (n : ℕ) → greatest w kind m low rows ≡ n → n ≡ suc t

@@ -3,8 +3,10 @@ pub mod Columns
 pub mod Credits
 pub mod Down
 pub mod Encoded
+pub mod Frames
 pub mod Greatest
 pub mod Growth
 pub mod Layouts
 pub mod Orders
 pub mod Serials
+pub mod Single

@@ -1,3 +1,4 @@
+pub mod Asked
 pub mod Holders
 pub mod Rows
 pub mod Serials

@@ -6,6 +6,7 @@ use mathlib.Core.List.{List, [], _∷_, map}
 use mathlib.Core.Bool.{Bool, true, cond, _&&_}
 use lib.Dec.{eqb, leb}
 use Rattle.fields.specs.Field.{field, putField}
+use Rattle.fields.specs.Kind.{ECHO}
 use Rattle.sets.specs.Sets.{maskBytes}
 use Rattle.sets.specs.Ticks.{Held, add, proper}
 
@@ -15,19 +16,33 @@ pub record Row : Type 0 where
   pub echo : Held
   pub init : Held
 
-abbrev pub rowSize : ℕ → ℕ
-rowSize mb = 12 + 2 * mb
+-- bytes of a set, and of a row
+abbrev pub setSize : ℕ → ℕ
+setSize mb = 4 + mb
 
--- bytes of a row in service: the masks are those of the code's struct
+abbrev pub rowSize : ℕ → ℕ
+rowSize mb = 4 + 2 * setSize mb
+
+-- in service the masks are those of the code's struct
+abbrev pub setBytes : ℕ
+setBytes = setSize maskBytes
+
 abbrev pub rowBytes : ℕ
 rowBytes = rowSize maskBytes
 
--- the set of a kind (2 echo, 1 init), and where in its row it stands
+-- where in its row a set stands: the echo set behind the serial, the init set behind that
+abbrev pub echoPlace : ℕ
+echoPlace = 4
+
+abbrev pub initPlace : ℕ → ℕ
+initPlace mb = echoPlace + setSize mb
+
+-- the set of a kind, and its place
 unfoldable pub setOf : ℕ → Row → Held
-setOf kind row = cond (eqb kind 2) (row .echo) (row .init)
+setOf kind row = cond (eqb kind ECHO) (row .echo) (row .init)
 
 unfoldable pub setPlace : ℕ → ℕ → ℕ
-setPlace mb kind = cond (eqb kind 2) 4 (8 + mb)
+setPlace mb kind = cond (eqb kind ECHO) echoPlace (initPlace mb)
 
 -- ---- bytes to rows
 
@@ -35,7 +50,7 @@ unfoldable pub setAt : ℕ → List ℕ → ℕ → Held
 setAt mb b i = record { top = field 4 b i; mask = field mb b (i + 4) }
 
 unfoldable pub rowAt : ℕ → List ℕ → ℕ → Row
-rowAt mb b i = record { serial = field 4 b i; echo = setAt mb b (i + 4); init = setAt mb b (i + (8 + mb)) }
+rowAt mb b i = record { serial = field 4 b i; echo = setAt mb b (i + echoPlace); init = setAt mb b (i + initPlace mb) }
 
 -- the n rows from place i on
 unfoldable pub rowsAt : ℕ → ℕ → List ℕ → ℕ → List Row
@@ -48,7 +63,8 @@ unfoldable pub putSet : ℕ → List ℕ → ℕ → Held → List ℕ
 putSet mb b i s = putField mb (putField 4 b i (s .top)) (i + 4) (s .mask)
 
 unfoldable pub putRow : ℕ → List ℕ → ℕ → Row → List ℕ
-putRow mb b i row = putSet mb (putSet mb (putField 4 b i (row .serial)) (i + 4) (row .echo)) (i + (8 + mb)) (row .init)
+putRow mb b i row =
+    putSet mb (putSet mb (putField 4 b i (row .serial)) (i + echoPlace) (row .echo)) (i + initPlace mb) (row .init)
 
 unfoldable pub putRows : ℕ → List ℕ → ℕ → List Row → List ℕ
 putRows mb b i [] = b
@@ -58,7 +74,7 @@ putRows mb b i (row ∷ rows) = putRows mb (putRow mb b i row) (i + rowSize mb) 
 
 unfoldable pub creditRow : ℕ → ℕ → ℕ → Row → Row
 creditRow w kind j row =
-    cond (eqb kind 2)
+    cond (eqb kind ECHO)
     (record { serial = row .serial; echo = add w kind (row .echo) j; init = row .init })
     (record { serial = row .serial; echo = row .echo; init = add w kind (row .init) j })
 

@@ -5,30 +5,38 @@ use fields::field::long;
 use fields::field::put_long;
 use fields::field::put_word;
 use fields::field::word;
+use fields::kind::ECHO;
 use sets::ticks::Ticks;
 ghost use mathlib.Core.Path.{_≡_};
 ghost use Prim.Native.Nat.{_+_, _*_, _≤_, _<_};
 ghost use lib.ListN.{length};
-ghost use Rattle.fields.specs.Field.{words};
-ghost use Rattle.forms.specs.Roster.{count};
+ghost use Rattle.evidence.specs.Asked.{MayCredit};
 ghost use Rattle.evidence.specs.Holders.{holders, placeOf, foundBy};
-ghost use Rattle.evidence.specs.Rows.{setPlace, setAt, putSet, rowsAt, putRows, credit, properSet, properRows};
-ghost use Rattle.sets.specs.Sets.{heldBy};
+ghost use Rattle.evidence.specs.Rows.{setBytes, rowBytes, setPlace, setAt, putSet, rowsAt, putRows, credit, properSet, properRows};
+ghost use Rattle.sets.specs.Sets.{maskBytes, maskBits, heldBy};
 
-// Bytes of a row: serial, then top and mask of the echo set and of the init set.
-pub const ROW: usize = 28;
+// Bytes of a set: its top and its mask.
+pub const SET: usize = 4 + Ticks::BYTES;
+
+// Bytes of a row: serial, echo set, init set.
+pub const ROW: usize = 4 + 2 * SET;
+
+// Where in its row a set stands: the echo set behind the serial, the init set behind that.
+pub const ECHO_PLACE: usize = 4;
+
+pub const INIT_PLACE: usize = ECHO_PLACE + SET;
 
 // Where in its row the set of a kind stands.
 pub fn set_place(kind: u32) -> usize
-    ensures { λ r. ⌜ (r ≡ setPlace 8 kind) × (r ≤ 16) ⌝ }
+    ensures { λ r. ⌜ (r ≡ setPlace maskBytes kind) × (r + setBytes ≤ rowBytes) ⌝ }
 {
-    if kind == 2 { 4 } else { 16 }
+    if kind == ECHO { ECHO_PLACE } else { INIT_PLACE }
 }
 
 // The set at place i.
 pub fn read_set(b: &[u8], i: usize) -> Ticks
-    requires { ⌜ i + 12 ≤ length (now b) ⌝ }
-    ensures { λ r. ⌜ heldBy r ≡ setAt 8 (now (b .entry)) i ⌝ }
+    requires { ⌜ i + setBytes ≤ length (now b) ⌝ }
+    ensures { λ r. ⌜ heldBy r ≡ setAt maskBytes (now (b .entry)) i ⌝ }
 {
     Ticks {
         top: word(b, i),
@@ -38,8 +46,8 @@ pub fn read_set(b: &[u8], i: usize) -> Ticks
 
 // Writes a set at place i.
 pub fn store_set(b: &mut [u8], i: usize, s: Ticks)
-    requires { ⌜ i + 12 ≤ length (now b) ⌝ }
-    ensures { λ _. ⌜ now (b .exit) ≡ putSet 8 (now (b .entry)) i (heldBy s) ⌝ }
+    requires { ⌜ i + setBytes ≤ length (now b) ⌝ }
+    ensures { λ _. ⌜ now (b .exit) ≡ putSet maskBytes (now (b .entry)) i (heldBy s) ⌝ }
 {
     put_word(b, i, s.top);
     put_long(b, i + 4, s.mask);
@@ -53,8 +61,8 @@ pub enum Found {
 
 // The first of the n rows from i on that has this serial.
 pub fn find_row(b: &[u8], i: usize, n: usize, serial: u32) -> Found
-    requires { ⌜ i + n * 28 ≤ length (now b) ⌝ }
-    ensures { λ r. ⌜ foundBy r ≡ placeOf serial (rowsAt 8 n (now (b .entry)) i) ⌝ }
+    requires { ⌜ i + n * rowBytes ≤ length (now b) ⌝ }
+    ensures { λ r. ⌜ foundBy r ≡ placeOf serial (rowsAt maskBytes n (now (b .entry)) i) ⌝ }
 {
     let mut k = 0;
     let mut at = i;
@@ -70,8 +78,8 @@ pub fn find_row(b: &[u8], i: usize, n: usize, serial: u32) -> Found
 
 // How many of the n rows from i on hold (kind, t).
 pub fn count_holders(b: &[u8], i: usize, n: usize, kind: u32, w: u32, t: u32) -> usize
-    requires { ⌜ (i + n * 28 ≤ length (now b)) × (w ≤ 64) ⌝ }
-    ensures { λ r. ⌜ (r ≡ holders w kind t (rowsAt 8 n (now (b .entry)) i)) × (r ≤ n) ⌝ }
+    requires { ⌜ (i + n * rowBytes ≤ length (now b)) × (w ≤ maskBits) ⌝ }
+    ensures { λ r. ⌜ (r ≡ holders w kind t (rowsAt maskBytes n (now (b .entry)) i)) × (r ≤ n) ⌝ }
 {
     let place = set_place(kind);
     let mut found: usize = 0;
@@ -87,8 +95,9 @@ pub fn count_holders(b: &[u8], i: usize, n: usize, kind: u32, w: u32, t: u32) ->
 
 // Credits the frame (kind, j) to the row of a serial.
 pub fn credit_row(b: &mut [u8], i: usize, n: usize, w: u32, serial: u32, kind: u32, j: u32)
-    requires { ⌜ (i + n * 28 ≤ length (now b)) × (0 < w) × (w ≤ 64) × (count serial (words n 28 (now b) i) ≤ 1) ⌝ }
-    ensures { λ _. ⌜ now (b .exit) ≡ putRows 8 (now (b .entry)) i (credit w serial kind j (rowsAt 8 n (now (b .entry)) i)) ⌝ }
+    requires { ⌜ MayCredit (now b) i n w serial ⌝ }
+    ensures { λ _. ⌜ now (b .exit)
+        ≡ putRows maskBytes (now (b .entry)) i (credit w serial kind j (rowsAt maskBytes n (now (b .entry)) i)) ⌝ }
 {
     if let Found::At(k) = find_row(b, i, n, serial) {
         let at = i + ROW * k + set_place(kind);
@@ -99,7 +108,7 @@ pub fn credit_row(b: &mut [u8], i: usize, n: usize, w: u32, serial: u32, kind: u
 
 // Whether a set is proper, with its top at most the last tick.
 fn is_proper_set(s: Ticks, w: u32, last: u32) -> bool
-    requires { ⌜ w ≤ 64 ⌝ }
+    requires { ⌜ w ≤ maskBits ⌝ }
     ensures { λ r. ⌜ r ≡ properSet w last (heldBy s) ⌝ }
 {
     if s.top <= last { s.is_proper(w) } else { false }
@@ -107,16 +116,16 @@ fn is_proper_set(s: Ticks, w: u32, last: u32) -> bool
 
 // Whether the n rows from i on are as a sound image may hold them.
 pub fn are_proper(b: &[u8], i: usize, n: usize, w: u32, last: u32) -> bool
-    requires { ⌜ (i + n * 28 ≤ length (now b)) × (w ≤ 64) ⌝ }
-    ensures { λ r. ⌜ r ≡ properRows w last (rowsAt 8 n (now (b .entry)) i) ⌝ }
+    requires { ⌜ (i + n * rowBytes ≤ length (now b)) × (w ≤ maskBits) ⌝ }
+    ensures { λ r. ⌜ r ≡ properRows w last (rowsAt maskBytes n (now (b .entry)) i) ⌝ }
 {
     let mut at = i;
     let mut left = n;
     while 0 < left {
-        if !is_proper_set(read_set(b, at + 4), w, last) {
+        if !is_proper_set(read_set(b, at + ECHO_PLACE), w, last) {
             return false;
         }
-        if !is_proper_set(read_set(b, at + 16), w, last) {
+        if !is_proper_set(read_set(b, at + INIT_PLACE), w, last) {
             return false;
         }
         at += ROW;

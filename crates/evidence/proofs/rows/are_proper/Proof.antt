@@ -1,21 +1,21 @@
 -- `rows::are_proper` meets its contract: all rows are proper where the rows left are.
 -- Assumes nothing.
 use borrow.Author.Needs.{needs}
-use mathlib.Core.Path.{_≡_, refl, sym, ap, ap₂, _∙_}
-use mathlib.Core.Bool.{Bool, true, false, _&&_, and-false}
-use Prim.Native.Nat.{ℕ, _+_, _-_, _*_, _≤_}
+use mathlib.Core.Path.{_≡_, refl, sym, ap, _∙_}
+use Prim.Native.Nat.{_+_, _*_, _≤_}
 use native.Mathlib.Omega.{arith}
 use borrow.Author.Tests.{not-true, not-false}
 use lib.ListN.{length}
 use denote.Ref.{now}
-use Rattle.evidence.specs.Rows.{properSet, properRows, rowsAt, setAt}
-use Rattle.evidence.proofs.Columns.{proper-down, proper-end}
+use Rattle.sets.specs.Sets.{maskBytes}
+use Rattle.evidence.specs.Rows.{rowBytes, properSet, properRows, rowsAt}
+use Rattle.evidence.proofs.Columns.{proper-not-echo, proper-not-init, proper-both, proper-end}
 use Rattle.evidence.proofs.rows.are_proper.Statement.{statement}
 use Rattle.evidence.proofs.rows.are_proper.Tie as tie
 
 abbrev Inv-loop : tie.InvT-loop
 Inv-loop b i n w last at₀ left₀ at left =
-    (properRows w last (rowsAt 8 n b i) ≡ properRows w last (rowsAt 8 left b at)) × (at + left * 28 ≤ length b)
+    (properRows w last (rowsAt maskBytes n b i) ≡ properRows w last (rowsAt maskBytes left b at)) × (at + left * rowBytes ≤ length b)
 
 abbrev μ-loop : tie.MeasureT-loop
 μ-loop b i n w last at₀ left₀ at left = left
@@ -36,9 +36,10 @@ returns : tie.Need-returns Inv-loop μ-loop
 returns c =
     let a = c .before .before .before .before .before .before .args in
     let l = c .before .before .before .before .loop in
-    let down = proper-down 8 (l .left) (now (a .b)) (l .at) (a .w) (a .last) (c .before .before .before .loop-test .taken) in
-    let here = sym (c .before .is-proper-set .ensures ∙ ap (properSet (a .w) (a .last)) (c .before .before .read-set .ensures)) ∙ not-true (c .before .is-proper-set .result) (c .if1 .taken) in
-    sym (l .inv .0 ∙ down ∙ ap (λ (t : Bool). t && (properSet (a .w) (a .last) (setAt 8 (now (a .b)) (l .at + 16)) && properRows (a .w) (a .last) (rowsAt 8 (l .left - 1) (now (a .b)) (l .at + 28)))) here)
+    let told = c .before .is-proper-set .ensures ∙ ap (properSet (a .w) (a .last)) (c .before .before .read-set .ensures) in
+    let not = sym told ∙ not-true (c .before .is-proper-set .result) (c .if1 .taken) in
+    let some = c .before .before .before .loop-test .taken in
+    sym (l .inv .0 ∙ proper-not-echo maskBytes (l .left) (now (a .b)) (l .at) (a .w) (a .last) some not)
 
 add-read-set-2 : tie.Need-add-read-set-2 Inv-loop μ-loop
 add-read-set-2 c = omega arith
@@ -53,11 +54,10 @@ returns-2 : tie.Need-returns-2 Inv-loop μ-loop
 returns-2 c =
     let a = c .before .before .before .before .before .before .before .before .before .args in
     let l = c .before .before .before .before .before .before .before .loop in
-    let down = proper-down 8 (l .left) (now (a .b)) (l .at) (a .w) (a .last) (c .before .before .before .before .before .before .loop-test .taken) in
-    let here = sym (c .before .is-proper-set2 .ensures ∙ ap (properSet (a .w) (a .last)) (c .before .before .read-set2 .ensures)) ∙ not-true (c .before .is-proper-set2 .result) (c .if2 .taken) in
-    sym
-    (l .inv .0 ∙ down ∙ ap (λ (t : Bool). properSet (a .w) (a .last) (setAt 8 (now (a .b)) (l .at + 4)) && (t && properRows (a .w) (a .last) (rowsAt 8 (l .left - 1) (now (a .b)) (l .at + 28)))) here
-    ∙ and-false (properSet (a .w) (a .last) (setAt 8 (now (a .b)) (l .at + 4))))
+    let told = c .before .is-proper-set2 .ensures ∙ ap (properSet (a .w) (a .last)) (c .before .before .read-set2 .ensures) in
+    let not = sym told ∙ not-true (c .before .is-proper-set2 .result) (c .if2 .taken) in
+    let some = c .before .before .before .before .before .before .loop-test .taken in
+    sym (l .inv .0 ∙ proper-not-init maskBytes (l .left) (now (a .b)) (l .at) (a .w) (a .last) some not)
 
 add-at : tie.Need-add-at Inv-loop μ-loop
 add-at c = omega arith
@@ -72,16 +72,21 @@ loop-again : tie.Need-loop-again Inv-loop μ-loop
 loop-again c =
     let a = c .before .before .before .before .before .before .before .before .before .args in
     let l = c .before .before .before .before .before .before .before .loop in
-    let down = proper-down 8 (l .left) (now (a .b)) (l .at) (a .w) (a .last) (c .before .before .before .before .before .before .loop-test .taken) in
-    let first = sym (c .before .before .before .before .is-proper-set .ensures ∙ ap (properSet (a .w) (a .last)) (c .before .before .before .before .before .read-set .ensures)) ∙ not-false (c .before .before .before .before .is-proper-set .result) (c .before .before .before .if1 .left) in
-    let second = sym (c .before .is-proper-set2 .ensures ∙ ap (properSet (a .w) (a .last)) (c .before .before .read-set2 .ensures)) ∙ not-false (c .before .is-proper-set2 .result) (c .if2 .left) in
-    (l .inv .0 ∙ down ∙ ap₂ (λ (s t : Bool). s && (t && properRows (a .w) (a .last) (rowsAt 8 (l .left - 1) (now (a .b)) (l .at + 28)))) first second, omega arith)
+    let first = c .before .before .before .before in
+    let echo =
+    sym (first .is-proper-set .ensures ∙ ap (properSet (a .w) (a .last)) (first .before .read-set .ensures))
+    ∙ not-false (first .is-proper-set .result) (c .before .before .before .if1 .left) in
+    let init =
+    sym (c .before .is-proper-set2 .ensures ∙ ap (properSet (a .w) (a .last)) (c .before .before .read-set2 .ensures))
+    ∙ not-false (c .before .is-proper-set2 .result) (c .if2 .left) in
+    let some = first .before .before .loop-test .taken in
+    (l .inv .0 ∙ proper-both maskBytes (l .left) (now (a .b)) (l .at) (a .w) (a .last) some echo init, omega arith)
 
 returns-3 : tie.Need-returns-3 Inv-loop μ-loop
 returns-3 c =
     let a = c .before .before .before .args in
     let l = c .before .loop in
-    sym (l .inv .0 ∙ proper-end (a .w) (a .last) 8 (l .left) (now (a .b)) (l .at) (omega arith))
+    sym (l .inv .0 ∙ proper-end (a .w) (a .last) maskBytes (l .left) (now (a .b)) (l .at) (omega arith))
 
 pub are-proper-spec : {M : Type 1} → statement M
 are-proper-spec =

@@ -17,7 +17,8 @@ returns : tie.Need-returns
 unfolding properSet
 returns c =
     let a = c .before .before .before .args in
-    c .is-proper .ensures ∙ sym (ap (λ (t : Bool). t && proper (a .w) (heldBy (a .s))) (le-leb (a .s .top) (a .last) (c .before .if1 .taken)))
+    let low = le-leb (a .s .top) (a .last) (c .before .if1 .taken) in
+    c .is-proper .ensures ∙ sym (ap (λ (t : Bool). t && proper (a .w) (heldBy (a .s))) low)
 
 returns-2 : tie.Need-returns-2
 unfolding properSet

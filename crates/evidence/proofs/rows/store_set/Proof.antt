@@ -1,11 +1,11 @@
 -- `rows::store_set` meets its contract: its two fields are written where they stand.
 -- Assumes nothing.
 use borrow.Author.Needs.{needs}
-use mathlib.Core.Path.{_≡_, sym, ap, _∙_}
+use mathlib.Core.Path.{ap, _∙_}
 use mathlib.Core.List.{List}
 use Prim.Native.Nat.{ℕ, _+_}
-use denote.Ref.{now}
 use Rattle.fields.specs.Field.{putField}
+use Rattle.sets.specs.Sets.{maskBytes}
 use Rattle.evidence.specs.Rows.{putSet}
 use Rattle.evidence.proofs.rows.store_set.Statement.{statement}
 use Rattle.evidence.proofs.rows.store_set.Tie as tie
@@ -26,7 +26,9 @@ returns : tie.Need-returns
 unfolding putSet
 returns c =
     let a = c .before .before .before .before .before .before .before .before .before .args in
-    c .before .before .put-long .ensures ∙ ap (λ (l : List ℕ). putField 8 l (a .i + 4) (a .s .mask)) (c .before .before .before .before .before .before .put-word .ensures)
+    c .before .before .put-long .ensures
+    ∙ ap (λ (l : List ℕ). putField maskBytes l (a .i + 4) (a .s .mask))
+    (c .before .before .before .before .before .before .put-word .ensures)
 
 pub store-set-spec : {M : Type 1} → statement M
 store-set-spec =

@@ -1,15 +1,15 @@
 -- Laws of the bits of words that are joined, shifted down or filled, and of the counters that they make.
 -- Assumes nothing.
-use mathlib.Core.Path.{_≡_, refl, sym, ap, ap₂, _∙_}
-use Prim.Native.Nat.{ℕ, zero, suc, _+_, _-_, _*_, _/_, _%_, _^_, _≤_, _<_, min, max}
-use native.Mathlib.Nat.{div-div-eq-div-mul, pow-suc, add-zero, add-suc}
+use mathlib.Core.Path.{_≡_, sym, ap, ap₂, _∙_}
+use Prim.Native.Nat.{ℕ, zero, suc, _+_, _-_, _*_, _/_, _%_, _^_, _<_, min, max}
+use native.Mathlib.Nat.{div-div-eq-div-mul, pow-suc, pow-succ', add-zero, add-suc}
 use native.Mathlib.Omega.{arith}
 use lib.Pow.{pow-pos}
 use lib.Bits.{differ, bitAnd, bitOr, bitXor, and-step, or-step, xor-step, and-shr, or-shr, xor-shr}
 use Rattle.sets.specs.Ticks.{bit}
-use Rattle.search.specs.Levels.{reached}
-use Rattle.search.specs.declared.levels.Levels.{Levels}
 use Rattle.sets.proofs.Masks.{bit-zero, bit-suc, bit-le, bit-out}
+use Rattle.search.specs.Levels.{capacity, reached}
+use Rattle.search.specs.declared.levels.Levels.{Levels}
 
 pub bit-none : (d : ℕ) → bit 0 d ≡ 0
 bit-none d = bit-out 0 0 d (omega arith) (omega arith)
@@ -33,8 +33,12 @@ bit-sum a b d =
     let x = a / 2 ^ d in
     let y = b / 2 ^ d in
     let told = digits (x % 2) (y % 2) (omega arith) (omega arith) in
-    let stays = ap (λ (z : ℕ). z % 2) (xor-shr a b d) ∙ last (bitXor x y) (bitXor (x / 2) (y / 2)) (differ (x % 2) (y % 2)) (xor-step x y) (told .0) in
-    let carried = ap (λ (z : ℕ). z % 2) (and-shr a b d) ∙ last (bitAnd x y) (bitAnd (x / 2) (y / 2)) (min (x % 2) (y % 2)) (and-step x y) (omega arith) in
+    let stays =
+    ap (λ (z : ℕ). z % 2) (xor-shr a b d)
+    ∙ last (bitXor x y) (bitXor (x / 2) (y / 2)) (differ (x % 2) (y % 2)) (xor-step x y) (told .0) in
+    let carried =
+    ap (λ (z : ℕ). z % 2) (and-shr a b d)
+    ∙ last (bitAnd x y) (bitAnd (x / 2) (y / 2)) (min (x % 2) (y % 2)) (and-step x y) (omega arith) in
     ap₂ (λ (p q : ℕ). p + 2 * q) stays carried ∙ told .1
 
 pub bit-or : (a b d : ℕ) → bit (bitOr a b) d ≡ max (bit a d) (bit b d)
@@ -49,22 +53,28 @@ bit-or a b d =
 pub shift-down : (m k d : ℕ) → bit (m / 2 ^ k) d ≡ bit m (d + k)
 shift-down m zero d = ap₂ bit (omega arith) (sym (add-zero d))
 shift-down m (suc k) d =
-    ap (λ (x : ℕ). bit x d) (ap (λ (x : ℕ). m / x) (pow-suc 2 k) ∙ ap (λ (x : ℕ). m / x) (omega arith) ∙ sym (div-div-eq-div-mul m 2 (2 ^ k)))
+    ap (λ (x : ℕ). bit x d) (ap (λ (x : ℕ). m / x) (pow-succ' 2 k) ∙ sym (div-div-eq-div-mul m 2 (2 ^ k)))
     ∙ shift-down (m / 2) k d ∙ sym (bit-suc m (d + k)) ∙ ap (bit m) (sym (add-suc d k))
 
 -- ---- filled
 
-ones : (k d : ℕ) → d < k → bit (2 ^ k - 1) d ≡ 1
-ones zero d p = absurd (omega arith)
-ones (suc k) zero p = bit-zero (2 ^ suc k - 1) ∙ omega (arith, pow-suc 2 k, pow-pos k)
-ones (suc k) (suc d) p = bit-suc (2 ^ suc k - 1) d ∙ ap (λ (x : ℕ). bit x d) (omega (arith, pow-suc 2 k, pow-pos k)) ∙ ones k d (omega arith)
-
-pub bit-ones : (d : ℕ) → d < 64 → bit 18446744073709551615 d ≡ 1
-bit-ones d p = ones 64 d p
+pub bit-ones : (k d : ℕ) → d < k → bit (2 ^ k - 1) d ≡ 1
+bit-ones zero d p = absurd (omega arith)
+bit-ones (suc k) zero p = bit-zero (2 ^ suc k - 1) ∙ omega (arith, pow-suc 2 k, pow-pos k)
+bit-ones (suc k) (suc d) p =
+    bit-suc (2 ^ suc k - 1) d ∙ ap (λ (x : ℕ). bit x d) (omega (arith, pow-suc 2 k, pow-pos k)) ∙ bit-ones k d (omega arith)
 
 -- ---- a counter of six bits
 
-pub reached-le : (l : Levels) (d : ℕ) → reached l d ≤ 63
+pub reached-lt : (l : Levels) (d : ℕ) → reached l d < capacity
 unfolding reached
-reached-le l d =
-    omega (arith, bit-le (l .ones) d, bit-le (l .twos) d, bit-le (l .fours) d, bit-le (l .eights) d, bit-le (l .sixteens) d, bit-le (l .more) d)
+reached-lt l d =
+    omega (
+      arith,
+      bit-le (l .ones) d,
+      bit-le (l .twos) d,
+      bit-le (l .fours) d,
+      bit-le (l .eights) d,
+      bit-le (l .sixteens) d,
+      bit-le (l .more) d,
+    )

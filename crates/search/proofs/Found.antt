@@ -1,7 +1,7 @@
 -- From one look to the next: what is found among the ticks looked at is the greatest, and where nothing is found none is left
 -- above the next look.
 -- Assumes nothing.
-use mathlib.Core.Path.{_≡_, refl, sym, ap, _∙_}
+use mathlib.Core.Path.{_≡_, sym, ap, _∙_}
 use mathlib.Core.List.{List}
 use Prim.Native.Nat.{ℕ, zero, suc, _+_, _-_, _≤_, _<_, max}
 use native.Mathlib.Decide.{decLt}
@@ -30,21 +30,36 @@ module _ (w kind m low : ℕ) (rows : List Row) where
     member t p q r = holds-at w (lookedAt x seen) t (x - 1 - t) (omega arith) (omega arith) ∙ look .shown t p q (omega arith)
 
     -- nothing is found among them
-    pub none-further : NoneFrom x → ((t : ℕ) → t < x → low ≤ t → max 1 m ≤ holders w kind t rows → holds w (lookedAt x seen) t ≡ 1 → ⊥) → NoneFrom (seen .next)
+    pub none-further :
+        NoneFrom x →
+        ((t : ℕ) → t < x → low ≤ t → max 1 m ≤ holders w kind t rows → holds w (lookedAt x seen) t ≡ 1 → ⊥) →
+        NoneFrom (seen .next)
     none-further above none t p l r =
         elim (decLt t x) [
           | no n ↦ above t (omega arith) l r
-          | yes q ↦ elim (decLt (t + w) x) [ yes s ↦ absurd (omega (arith, look .between t s p, few)) | no s ↦ none t q l r (member t q (omega arith) r) ]
+          | yes q ↦
+              elim (decLt (t + w) x) [
+                | yes s ↦ absurd (omega (arith, look .between t s p, few))
+                | no s ↦ none t q l r (member t q (omega arith) r)
+              ]
         ]
 
     pub none-seen : NoneFrom x → seen .held ≡ 0 → NoneFrom (seen .next)
-    none-seen above e = none-further above (λ t q l r s. let near = held-place w (lookedAt x seen) t s in omega (arith, s, holds-at w (lookedAt x seen) t (x - 1 - t) (omega arith) (omega arith), ap (λ (b : ℕ). bit b (x - 1 - t)) e, bit-none (x - 1 - t)))
+    none-seen above e = none-further above (λ t q l r s.
+        let near = held-place w (lookedAt x seen) t s in
+        let d = x - 1 - t in
+        omega (arith, s, holds-at w (lookedAt x seen) t d (omega arith) (omega arith), ap (λ (b : ℕ). bit b d) e, bit-none d))
 
-    pub none-better : NoneFrom x → {best : ℕ} → best ≡ max low (bestOf w kind (max 1 m) low rows (lookedAt x seen)) → best ≤ low → NoneFrom (seen .next)
-    none-better above e p = none-further above (λ t q l r s. omega (arith, e, p, best-most w kind (max 1 m) low rows t (lookedAt x seen) l r s))
+    -- the greatest of them, where it is above low
+    abbrev Best : ℕ → Type 0
+    Best best = best ≡ max low (bestOf w kind (max 1 m) low rows (lookedAt x seen))
+
+    pub none-better : NoneFrom x → {best : ℕ} → Best best → best ≤ low → NoneFrom (seen .next)
+    none-better above e p = none-further above (λ t q l r s.
+        omega (arith, e, p, best-most w kind (max 1 m) low rows t (lookedAt x seen) l r s))
 
     -- something is found
-    pub found : NoneFrom x → (best : ℕ) → best ≡ max low (bestOf w kind (max 1 m) low rows (lookedAt x seen)) → low < best → (best ≡ greatest w kind m low rows) × (best ≤ x)
+    pub found : NoneFrom x → (best : ℕ) → Best best → low < best → (best ≡ greatest w kind m low rows) × (best ≤ x)
     found above zero e p = absurd (omega arith)
     found above (suc t) e p =
         let best : bestOf w kind (max 1 m) low rows (lookedAt x seen) ≡ suc t = omega arith in
@@ -53,7 +68,10 @@ module _ (w kind m low : ℕ) (rows : List Row) where
         let is = greatest-is w kind m low rows t (held .0) (omega (arith, held .1)) (omega (arith, held .1)) (λ u q r s.
         elim (decLt u x) [
           | no n ↦ above u (omega arith) (omega (arith, held .0)) (omega arith)
-          | yes l ↦ omega (arith, best, best-most w kind (max 1 m) low rows u (lookedAt x seen) (omega (arith, held .0)) (omega arith) (member u l (omega (arith, near .1)) (omega arith)))
+          | yes l ↦
+              let there = member u l (omega (arith, near .1)) (omega arith) in
+              let later = best-most w kind (max 1 m) low rows u (lookedAt x seen) (omega (arith, held .0)) (omega arith) there in
+              omega (arith, best, later)
         ]) in
         (sym is, omega (arith, near .0))
 

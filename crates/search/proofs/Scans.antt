@@ -1,20 +1,21 @@
 -- What a look at the rows knows while some rows are left, and what one more row adds to it.
 -- Assumes nothing.
-use mathlib.Core.Path.{_≡_, refl, sym, ap, _∙_}
+use mathlib.Core.Path.{_≡_, refl}
 use mathlib.Core.Logic.{_⊎_, inl, inr, ⊎-elim}
 use mathlib.Core.List.{List}
-use Prim.Native.Nat.{ℕ, zero, suc, _+_, _-_, _≤_, _<_, max, min}
+use Prim.Native.Nat.{ℕ, _+_, _-_, _≤_, _<_, max, min}
 use native.Mathlib.Decide.{decLe}
 use native.Mathlib.Omega.{arith}
 use borrow.Author.Tests.{le-leb, lt-leb}
 use Rattle.evidence.specs.Holders.{holders}
 use Rattle.evidence.specs.Rows.{Row}
+use Rattle.sets.specs.Sets.{maskBits}
 use Rattle.sets.specs.Ticks.{Held, bit, holds}
 use Rattle.sets.proofs.Members.{Place, above, below, inside, place, holds-above, holds-below, holds-le}
-use Rattle.search.specs.Levels.{reached, Short, Counts}
+use Rattle.search.specs.Levels.{capacity, reached, Short}
 use Rattle.search.specs.Scan.{Counted, nextBelow, reaching, nextIf}
 use Rattle.search.specs.declared.levels.Levels.{Levels}
-use Rattle.search.proofs.Bits.{reached-le}
+use Rattle.search.proofs.Bits.{reached-lt}
 
 -- ---- where the next look begins
 
@@ -27,10 +28,18 @@ unfolding nextBelow
 next-falls w x next y p = rw (lt-leb x y p)
 
 next-least : (w x next y : ℕ) → next ≤ nextBelow w x next y
-next-least w x next y = elim (decLe x y) [ yes p ↦ omega (arith, next-stays w x next y p) | no p ↦ omega (arith, next-falls w x next y (omega arith)) ]
+next-least w x next y =
+    elim (decLe x y) [
+      | yes p ↦ omega (arith, next-stays w x next y p)
+      | no p ↦ omega (arith, next-falls w x next y (omega arith))
+    ]
 
 next-less : (w x next y : ℕ) → next < x → nextBelow w x next y < x
-next-less w x next y q = elim (decLe x y) [ yes p ↦ omega (arith, next-stays w x next y p) | no p ↦ omega (arith, next-falls w x next y (omega arith)) ]
+next-less w x next y q =
+    elim (decLe x y) [
+      | yes p ↦ omega (arith, next-stays w x next y p)
+      | no p ↦ omega (arith, next-falls w x next y (omega arith))
+    ]
 
 pub reaches-not : (x y : ℕ) → x ≤ y → reaching x y ≡ 0
 unfolding reaching
@@ -51,7 +60,9 @@ next-same m rest next p = rw (le-leb m rest p)
 -- ---- rows counted, and rows left. `under` is how many of those counted reach below the ticks looked at
 
 pub record Scanning (w kind m x : ℕ) (all rest : List Row) (l : Levels) (next under : ℕ) : Type 0 where
-  pub counting : (t : ℕ) → t < x → x ≤ t + w → (bit (l .over) (x - 1 - t) ≡ 1) ⊎ (reached l (x - 1 - t) + m + holders w kind t rest ≡ 64 + holders w kind t all)
+  pub counting :
+      (t : ℕ) → t < x → x ≤ t + w →
+      (bit (l .over) (x - 1 - t) ≡ 1) ⊎ (reached l (x - 1 - t) + m + holders w kind t rest ≡ capacity + holders w kind t all)
   pub between : (t : ℕ) → t + w < x → next ≤ t → holders w kind t rest ≡ holders w kind t all
   pub few : (t : ℕ) → t + w < x → holders w kind t all ≤ under + holders w kind t rest
   pub less : next < x
@@ -75,7 +86,7 @@ held-reaches w x s t p = go (place w s t)
     go (inside i e r) = omega (arith, holds-le w s t, reaches x (s .top + 1) (omega arith))
 
 module _ {w kind m x : ℕ} {all : List Row} where
-  pub scan-first : {l : Levels} → w ≤ 64 → 0 < x → Short m l → Scanning w kind m x all all l 0 0
+  pub scan-first : {l : Levels} → w ≤ maskBits → 0 < x → Short m l → Scanning w kind m x all all l 0 0
   scan-first wide p h =
       record {
         counting = λ t q r. inr (omega (arith, h .short (x - 1 - t) (omega arith)));
@@ -89,16 +100,20 @@ module _ {w kind m x : ℕ} {all : List Row} where
       Scanning w kind m x all left k (nextBelow w x next (s .top + 1)) (under + reaching x (s .top + 1))
   scan-row {rest} {left} {l} {k} {next} {under} s h down row =
       record {
-        counting = λ t p q. ⊎-elim (λ e. inl (row t p q .stays e)) (λ e. ⊎-elim inl (λ f. inr (omega (arith, e, f, down t))) (row t p q .counts)) (h .counting t p q);
-        between = λ t p q. omega (arith, h .between t p (omega (arith, next-least w x next (s .top + 1))), down t, unheld w x s next t p q);
+        counting = λ t p q.
+            ⊎-elim (λ e. inl (row t p q .stays e)) (λ e. ⊎-elim inl (λ f. inr (omega (arith, e, f, down t))) (row t p q .counts))
+            (h .counting t p q);
+        between = λ t p q.
+            omega (arith, h .between t p (omega (arith, next-least w x next (s .top + 1))), down t, unheld w x s next t p q);
         few = λ t p. omega (arith, h .few t p, down t, held-reaches w x s t p);
         less = next-less w x next (s .top + 1) (h .less);
       }
 
-  module _ {left : List Row} {l : Levels} {next under : ℕ} (h : Scanning w kind m x all left l next under) (end : (t : ℕ) → holders w kind t left ≡ 0) where
+  module _ {left : List Row} {l : Levels} {next under : ℕ} (h : Scanning w kind m x all left l next under)
+      (end : (t : ℕ) → holders w kind t left ≡ 0) where
     -- past the last row a counter that has not run over is short of m
     pub scan-shown : (t : ℕ) → t < x → x ≤ t + w → m ≤ holders w kind t all → bit (l .over) (x - 1 - t) ≡ 1
-    scan-shown t p q r = ⊎-elim (λ e. e) (λ e. absurd (omega (arith, e, end t, reached-le l (x - 1 - t)))) (h .counting t p q)
+    scan-shown t p q r = ⊎-elim (λ e. e) (λ e. absurd (omega (arith, e, end t, reached-lt l (x - 1 - t)))) (h .counting t p q)
 
     pub scan-between : 0 < m → (t : ℕ) → t + w < x → nextIf m under next ≤ t → holders w kind t all < m
     scan-between z t p q =
@@ -108,4 +123,8 @@ module _ {w kind m x : ℕ} {all : List Row} where
         ]
 
     pub scan-less : nextIf m under next < x
-    scan-less = elim (decLe m under) [ yes r ↦ omega (arith, next-same m under next r, h .less) | no r ↦ omega (arith, next-none m under next (omega arith), h .less) ]
+    scan-less =
+        elim (decLe m under) [
+          | yes r ↦ omega (arith, next-same m under next r, h .less)
+          | no r ↦ omega (arith, next-none m under next (omega arith), h .less)
+        ]

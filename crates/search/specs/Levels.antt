@@ -1,10 +1,15 @@
--- Counters of six bits for each of 64 ticks, as the joints of the search use them: what a counter has reached, and what one more
--- row does to it. None of this is needed to read what the search finds, which is `greatest` of the evidence.
-use Prim.Native.Nat.{ℕ, _+_, _*_, _%_, _<_}
+-- Counters of six bits for as many ticks as a mask has bits, as the joints of the search use them: what a counter has reached, and
+-- what one more row does to it. None of this is needed to read what the search finds, which is `greatest` of the evidence.
+use Prim.Native.Nat.{ℕ, _+_, _*_, _%_, _^_, _<_}
 use mathlib.Core.Path.{_≡_}
 use mathlib.Core.Logic.{_⊎_}
+use Rattle.sets.specs.Sets.{maskBits}
 use Rattle.sets.specs.Ticks.{bit}
 use Rattle.search.specs.declared.levels.Levels.{Levels}
+
+-- where a counter of six bits runs over, and so the most rows that it can be short of
+abbrev pub capacity : ℕ
+capacity = 2 ^ 6
 
 -- what the counter of tick d has reached
 unfoldable pub reached : Levels → ℕ → ℕ
@@ -14,11 +19,11 @@ reached l d =
 
 -- every bit of a word is the lowest of c
 abbrev pub Filled : ℕ → ℕ → Type 0
-Filled c r = (d : ℕ) → d < 64 → bit r d ≡ c % 2
+Filled c r = (d : ℕ) → d < maskBits → bit r d ≡ c % 2
 
--- every counter is m short of running over at 64
+-- every counter is m short of running over
 pub record Short (m : ℕ) (r : Levels) : Type 0 where
-  pub short : (d : ℕ) → d < 64 → reached r d + m ≡ 64
+  pub short : (d : ℕ) → d < maskBits → reached r d + m ≡ capacity
   pub none : r .over ≡ 0
 
 -- from l to r the counter of tick d has gone on by c, or has run over; and one that has run over stays so

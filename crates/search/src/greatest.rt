@@ -1,22 +1,24 @@
 // The greatest tick of a kind that enough serials hold. A joint between layers: it asks that the rows lie inside the buffer and
 // that the window fits a mask, which the node has checked before.
+use crate::levels::Levels;
 use crate::scan::less;
 use crate::scan::scan;
 use evidence::rows::count_holders;
 use evidence::rows::set_place;
 use sets::ticks::Ticks;
 ghost use mathlib.Core.Path.{_≡_};
-ghost use Prim.Native.Nat.{_+_, _*_, _≤_, _<_, max};
+ghost use Prim.Native.Nat.{_+_, _*_, _≤_, max, min};
 ghost use lib.ListN.{length};
 ghost use Rattle.evidence.specs.Holders.{greatest, bestOf};
-ghost use Rattle.evidence.specs.Rows.{rowsAt};
-ghost use Rattle.sets.specs.Sets.{heldBy};
+ghost use Rattle.evidence.specs.Rows.{rowBytes, rowsAt};
+ghost use Rattle.sets.specs.Sets.{maskBytes, maskBits, tickCount, heldBy};
+ghost use Rattle.search.specs.Levels.{capacity};
 
 // The greatest tick of one set s, as tick + 1, that is above best and that m of the n rows hold; else best. The set's own bit
 // is tested first, and the search ends at the best so far.
 fn better(b: &[u8], i: usize, n: usize, kind: u32, w: u32, m: usize, s: Ticks, best: u64) -> u64
-    requires { ⌜ (i + n * 28 ≤ length (now b)) × (w ≤ 64) ⌝ }
-    ensures { λ r. ⌜ r ≡ max best (bestOf w kind m best (rowsAt 8 n (now (b .entry)) i) (heldBy s)) ⌝ }
+    requires { ⌜ (i + n * rowBytes ≤ length (now b)) × (w ≤ maskBits) ⌝ }
+    ensures { λ r. ⌜ r ≡ max best (bestOf w kind m best (rowsAt maskBytes n (now (b .entry)) i) (heldBy s)) ⌝ }
 {
     let mut left = w;
     while 0 < left {
@@ -42,24 +44,28 @@ fn at_least_one(m: usize) -> usize
     if m == 0 { 1 } else { m }
 }
 
-// A number that a counter of six bits can be short of: 1 to 64.
+// As many of m as a counter can be short of.
 fn countable(m: usize) -> u64
-    requires { ⌜ 0 < m ⌝ }
-    ensures { λ r. ⌜ (r ≤ m) × (0 < r) × (r ≤ 64) ⌝ }
+    ensures { λ r. ⌜ r ≡ min m capacity ⌝ }
 {
-    if m < 64 { m as u64 } else { 64 }
+    let many = m as u64;
+    if many < Levels::CAPACITY {
+        many
+    } else {
+        Levels::CAPACITY
+    }
 }
 
-// The greatest tick of a kind, as tick + 1, that is at least low and that m of the n rows from i on hold; 0 for none. Where m is more than a
-// counter can tell, the ticks that it shows are counted one by one.
+// The greatest tick of a kind, as tick + 1, that is at least low and that m of the n rows from i on hold; 0 for none. Where m is
+// more than a counter can tell, the ticks that it shows are counted one by one.
 pub fn find_greatest(b: &[u8], i: usize, n: usize, kind: u32, w: u32, m: usize, low: u64) -> u64
-    requires { ⌜ (i + n * 28 ≤ length (now b)) × (w ≤ 64) ⌝ }
-    ensures { λ r. ⌜ (r ≡ greatest w kind m low (rowsAt 8 n (now (b .entry)) i)) × (r ≤ 4294967296) ⌝ }
+    requires { ⌜ (i + n * rowBytes ≤ length (now b)) × (w ≤ maskBits) ⌝ }
+    ensures { λ r. ⌜ (r ≡ greatest w kind m low (rowsAt maskBytes n (now (b .entry)) i)) × (r ≤ tickCount) ⌝ }
 {
     let place = set_place(kind);
     let enough = at_least_one(m);
     let short = countable(enough);
-    let mut x: u64 = 4_294_967_296;
+    let mut x: u64 = Ticks::COUNT;
     while low < x {
         let seen = scan(b, i, n, place, kind, w, short, x);
         if seen.held != 0 {

@@ -1,8 +1,7 @@
-// For each of 64 ticks, how many rows are still missing until m hold it: a counter of six bits for each tick, with the bits of one
-// rank together in one word. A tick whose counter has run over is held by m rows.
-ghost use mathlib.Core.Path.{_≡_};
+// How many rows are still missing until m hold a tick, for as many ticks as a mask has bits: a counter of six bits for each tick, with
+// the bits of one rank together in one word. A tick whose counter has run over is held by m rows.
 ghost use Prim.Native.Nat.{_≤_, _<_};
-ghost use Rattle.search.specs.Levels.{Filled, Short, Raised};
+ghost use Rattle.search.specs.Levels.{capacity, Filled, Short, Raised};
 
 pub struct Levels {
     pub ones: u64,
@@ -15,24 +14,26 @@ pub struct Levels {
     pub over: u64,
 }
 
-// A word of 64 equal bits.
+// The word with every bit set.
+const FULL: u64 = 18_446_744_073_709_551_615;
+
+// A word of equal bits.
 fn filled(c: u64) -> u64
     ensures { λ r. ⌜ Filled c r ⌝ }
 {
-    if c % 2 == 1 {
-        18_446_744_073_709_551_615
-    } else {
-        0
-    }
+    if c % 2 == 1 { FULL } else { 0 }
 }
 
 impl Levels {
+    // Where a counter of six bits runs over.
+    pub(crate) const CAPACITY: u64 = 1 << 6;
+
     // Every tick is m rows short of running over.
     pub(crate) fn short_of(m: u64) -> Levels
-        requires { ⌜ (0 < m) × (m ≤ 64) ⌝ }
+        requires { ⌜ (0 < m) × (m ≤ capacity) ⌝ }
         ensures { λ r. ⌜ Short m r ⌝ }
     {
-        let from = 64 - m;
+        let from = Levels::CAPACITY - m;
         Levels {
             ones: filled(from),
             twos: filled(from / 2),

@@ -6,11 +6,14 @@ use fields::field::word;
 use sets::ticks::Ticks;
 use sets::ticks::cut;
 ghost use mathlib.Core.Path.{_≡_};
-ghost use Prim.Native.Nat.{_+_, _-_, _*_, _≤_, _<_, max, min};
-ghost use lib.ListN.{length};
-ghost use Rattle.evidence.specs.Rows.{setPlace, setAt, rowsAt};
-ghost use Rattle.sets.specs.Sets.{heldBy};
+ghost use Prim.Native.Nat.{_-_, _≤_, max, min};
+ghost use Rattle.evidence.specs.Rows.{setAt, rowsAt};
+ghost use Rattle.sets.specs.Sets.{maskBytes, maskBits, heldBy};
+ghost use Rattle.search.specs.Asked.{MayCount, MayScan};
 ghost use Rattle.search.specs.Scan.{Shown, Counted, Scanned, nextBelow, reaching, nextIf};
+
+// Bits of a mask, beside numbers like x.
+const BITS: u64 = Ticks::BITS as u64;
 
 pub struct Seen {
     // bit d for tick x - 1 - d: set where m rows hold that tick
@@ -21,24 +24,24 @@ pub struct Seen {
 
 // The mask of a set with bit d for tick x - 1 - d.
 fn seen_from(s: Ticks, w: u32, x: u64) -> u64
-    requires { ⌜ w ≤ 64 ⌝ }
+    requires { ⌜ w ≤ maskBits ⌝ }
     ensures { λ r. ⌜ Shown w (heldBy s) x r ⌝ }
 {
     let mask = cut(w, s.mask);
     let y = s.top as u64 + 1;
     if y < x {
         let up = x - y;
-        if up < 64 { mask << up } else { 0 }
+        if up < BITS { mask << up } else { 0 }
     } else {
         let down = y - x;
-        if down < 64 { mask >> down } else { 0 }
+        if down < BITS { mask >> down } else { 0 }
     }
 }
 
 // Counts the row whose set stands at place p. Its mask is read only where the set reaches into the ticks looked at.
 fn count_row(levels: Levels, b: &[u8], p: usize, w: u32, x: u64) -> Levels
-    requires { ⌜ (p + 12 ≤ length (now b)) × (w ≤ 64) × (x ≤ 4294967296) ⌝ }
-    ensures { λ r. ⌜ Counted w (setAt 8 (now (b .entry)) p) x levels r ⌝ }
+    requires { ⌜ MayCount (now b) p w x ⌝ }
+    ensures { λ r. ⌜ Counted w (setAt maskBytes (now (b .entry)) p) x levels r ⌝ }
 {
     let y = word(b, p) as u64 + 1;
     if y + w as u64 <= x {
@@ -104,8 +107,8 @@ pub(crate) fn scan(
     m: u64,
     x: u64,
 ) -> Seen
-    requires { ⌜ (i + n * 28 ≤ length (now b)) × (place ≡ setPlace 8 kind) × (place ≤ 16) × (w ≤ 64) × (0 < m) × (m ≤ 64) × (0 < x) × (x ≤ 4294967296) ⌝ }
-    ensures { λ r. ⌜ Scanned w kind m x (rowsAt 8 n (now (b .entry)) i) r ⌝ }
+    requires { ⌜ MayScan (now b) i n place kind w m x ⌝ }
+    ensures { λ r. ⌜ Scanned w kind m x (rowsAt maskBytes n (now (b .entry)) i) r ⌝ }
 {
     let mut levels = Levels::short_of(m);
     let mut next: u64 = 0;

@@ -1,26 +1,33 @@
--- `greatest::better` meets its contract: the search that is left finds what the whole search would, where that is better than the best so far.
+-- `greatest::better` meets its contract: the search that is left finds what the whole search would, where that is better than the
+-- best so far.
 -- Assumes nothing.
 use borrow.Author.Needs.{needs}
 use mathlib.Core.Path.{_≡_, sym, ap, ap₂, _∙_}
 use mathlib.Core.Logic.{⊎-elim}
-use mathlib.Core.Bool.{Bool, true, false, _&&_, and-false}
+use mathlib.Core.Bool.{Bool, false, _&&_, and-false}
 use mathlib.Core.List.{List}
 use Prim.Native.Nat.{ℕ, _+_, _-_, _≤_, _<_, max}
 use native.Mathlib.Omega.{arith}
 use borrow.Author.Tests.{eq-eqb, ne-eqb, le-leb, lt-leb}
 use lib.Dec.{eqb, leb}
 use denote.Ref.{now}
+use Rattle.sets.specs.Sets.{maskBytes, heldBy}
+use Rattle.sets.specs.Ticks.{holds}
+use Rattle.sets.specs.declared.ticks.Ticks.{Ticks}
 use Rattle.evidence.specs.Holders.{holders, firstDown, shared, bestOf}
-use Rattle.evidence.specs.Rows.{Row, rowsAt}
-use Rattle.sets.specs.Sets.{heldBy}
-use Rattle.sets.specs.Ticks.{Held, holds}
+use Rattle.evidence.specs.Rows.{rowsAt}
 use Rattle.evidence.proofs.Down.{down-stop, down-end, down-hit, down-miss}
 use Rattle.search.proofs.greatest.better.Statement.{statement}
 use Rattle.search.proofs.greatest.better.Tie as tie
 
+-- the ticks that the search looks for, and the search over c of them from x down
+abbrev wanted : List ℕ → ℕ → ℕ → ℕ → ℕ → ℕ → Ticks → ℕ → Bool
+wanted b i n kind w m s = shared w kind m (rowsAt maskBytes n b i) (heldBy s)
+
 abbrev Inv-loop : tie.InvT-loop
 Inv-loop b i n kind w m s best left₀ left =
-    (max best (firstDown (shared w kind m (rowsAt 8 n b i) (heldBy s)) best left (s .top + 1 - (w - left))) ≡ max best (firstDown (shared w kind m (rowsAt 8 n b i) (heldBy s)) best w (s .top + 1)))
+    (max best (firstDown (wanted b i n kind w m s) best left (s .top + 1 - (w - left)))
+    ≡ max best (firstDown (wanted b i n kind w m s) best w (s .top + 1)))
     × (left ≤ w)
 
 abbrev μ-loop : tie.MeasureT-loop
@@ -29,8 +36,9 @@ abbrev μ-loop : tie.MeasureT-loop
 loop-holds : tie.Need-loop-holds Inv-loop μ-loop
 loop-holds c =
     let a = c .before .args in
+    let goes = wanted (now (a .b)) (a .i) (a .n) (a .kind) (a .w) (a .m) (a .s) in
     let whole : a .s .top + 1 - (a .w - a .w) ≡ a .s .top + 1 = omega arith in
-    (ap (λ (x : ℕ). max (a .best) (firstDown (shared (a .w) (a .kind) (a .m) (rowsAt 8 (a .n) (now (a .b)) (a .i)) (heldBy (a .s))) (a .best) (a .w) x)) whole, omega arith)
+    (ap (λ (x : ℕ). max (a .best) (firstDown goes (a .best) (a .w) x)) whole, omega arith)
 
 cast-less : tie.Need-cast-less Inv-loop μ-loop
 cast-less c = search needs
@@ -51,8 +59,10 @@ returns : tie.Need-returns Inv-loop μ-loop
 unfolding bestOf
 returns c =
     let a = c .before .before .before .before .before .before .args in
+    let goes = wanted (now (a .b)) (a .i) (a .n) (a .kind) (a .w) (a .m) (a .s) in
     let l = c .before .before .before .before .loop in
-    omega (arith, l .inv .0, down-end (shared (a .w) (a .kind) (a .m) (rowsAt 8 (a .n) (now (a .b)) (a .i)) (heldBy (a .s))) (a .best) (l .left) (a .s .top + 1 - (a .w - l .left)) (omega (arith, c .if1 .taken, c .before .less .ensures)))
+    let x = a .s .top + 1 - (a .w - l .left) in
+    omega (arith, l .inv .0, down-end goes (a .best) (l .left) x (omega (arith, c .if1 .taken, c .before .less .ensures)))
 
 sub-t : tie.Need-sub-t Inv-loop μ-loop
 sub-t c = omega arith
@@ -70,14 +80,16 @@ returns-2 : tie.Need-returns-2 Inv-loop μ-loop
 unfolding bestOf
 returns-2 c =
     let a = c .before .before .before .before .before .before .before .before .before .before .args in
+    let goes = wanted (now (a .b)) (a .i) (a .n) (a .kind) (a .w) (a .m) (a .s) in
     let l = c .before .before .before .before .before .before .before .before .loop in
     let x = c .before .before .before .before .before .less .result in
     let here : x ≡ a .s .top + 1 - (a .w - l .left) = c .before .before .before .before .before .less .ensures in
-    let all = rowsAt 8 (a .n) (now (a .b)) (a .i) in
-    let held = eq-eqb (holds (a .w) (heldBy (a .s)) (x - 1)) 1 (sym (c .before .before .before .holds .ensures .0) ∙ c .before .before .if2 .taken) in
-    let enough = le-leb (a .m) (holders (a .w) (a .kind) (x - 1) all) (omega (arith, c .if3 .taken, c .before .count-holders .ensures .0)) in
-    let hit = down-hit (shared (a .w) (a .kind) (a .m) (rowsAt 8 (a .n) (now (a .b)) (a .i)) (heldBy (a .s))) (a .best) (l .left) x (omega arith) (omega arith) (ap₂ (λ (p q : Bool). p && q) held enough) in
-    omega (arith, l .inv .0, hit, ap (firstDown (shared (a .w) (a .kind) (a .m) (rowsAt 8 (a .n) (now (a .b)) (a .i)) (heldBy (a .s))) (a .best) (l .left)) here)
+    let many = holders (a .w) (a .kind) (x - 1) (rowsAt maskBytes (a .n) (now (a .b)) (a .i)) in
+    let own = sym (c .before .before .before .holds .ensures .0) ∙ c .before .before .if2 .taken in
+    let held = eq-eqb (holds (a .w) (heldBy (a .s)) (x - 1)) 1 own in
+    let enough = le-leb (a .m) many (omega (arith, c .if3 .taken, c .before .count-holders .ensures .0)) in
+    let hit = down-hit goes (a .best) (l .left) x (omega arith) (omega arith) (ap₂ (λ (p q : Bool). p && q) held enough) in
+    omega (arith, l .inv .0, hit, ap (firstDown goes (a .best) (l .left)) here)
 
 sub-left : tie.Need-sub-left Inv-loop μ-loop
 sub-left c = omega arith
@@ -90,33 +102,41 @@ one-below : (x top w left : ℕ) → 0 < left → left ≤ w → x ≡ top + 1 -
 one-below x top w left p q e = omega arith
 
 -- the tick in hand is not it: the set does not hold it, or too few rows do
-missed : (c : tie.Joined2 Inv-loop μ-loop) → let a = c .before .before .before .before .before .before .before .before .args in shared (a .w) (a .kind) (a .m) (rowsAt 8 (a .n) (now (a .b)) (a .i)) (heldBy (a .s)) (c .before .before .before .less .result - 1) ≡ false
+missed :
+    (c : tie.Joined2 Inv-loop μ-loop) →
+    let a = c .before .before .before .before .before .before .before .before .args in
+    wanted (now (a .b)) (a .i) (a .n) (a .kind) (a .w) (a .m) (a .s) (c .before .before .before .less .result - 1) ≡ false
 missed c =
     let a = c .before .before .before .before .before .before .before .before .args in
     let t = c .before .before .before .less .result - 1 in
-    let all = rowsAt 8 (a .n) (now (a .b)) (a .i) in
+    let many = holders (a .w) (a .kind) t (rowsAt maskBytes (a .n) (now (a .b)) (a .i)) in
     let own = eqb (holds (a .w) (heldBy (a .s)) t) 1 in
     ⊎-elim
-    (λ v. ap (λ (q : Bool). own && q) (lt-leb (a .m) (holders (a .w) (a .kind) t all) (omega (arith, v .2 .left, v .1 .ensures .0))) ∙ and-false own)
-    (λ v. ap (λ (p : Bool). p && leb (a .m) (holders (a .w) (a .kind) t all)) (ne-eqb (holds (a .w) (heldBy (a .s)) t) 1 (λ e. v .left (c .before .holds .ensures .0 ∙ e))))
+    (λ v. ap (λ (q : Bool). own && q) (lt-leb (a .m) many (omega (arith, v .2 .left, v .1 .ensures .0))) ∙ and-false own)
+    (λ v. ap (λ (p : Bool). p && leb (a .m) many)
+    (ne-eqb (holds (a .w) (heldBy (a .s)) t) 1 (λ e. v .left (c .before .holds .ensures .0 ∙ e))))
     (c .if2 .came)
 
 loop-again : tie.Need-loop-again Inv-loop μ-loop
 loop-again c =
     let a = c .before .before .before .before .before .before .before .before .args in
+    let goes = wanted (now (a .b)) (a .i) (a .n) (a .kind) (a .w) (a .m) (a .s) in
     let l = c .before .before .before .before .before .before .loop in
     let x = c .before .before .before .less .result in
     let here : x ≡ a .s .top + 1 - (a .w - l .left) = c .before .before .before .less .ensures in
     let below = one-below x (a .s .top) (a .w) (l .left) (omega arith) (l .inv .1) here in
-    let miss = down-miss (shared (a .w) (a .kind) (a .m) (rowsAt 8 (a .n) (now (a .b)) (a .i)) (heldBy (a .s))) (a .best) (l .left) x (omega arith) (omega arith) (missed c) in
-    (omega (arith, l .inv .0, miss, ap (firstDown (shared (a .w) (a .kind) (a .m) (rowsAt 8 (a .n) (now (a .b)) (a .i)) (heldBy (a .s))) (a .best) (l .left)) here, ap (firstDown (shared (a .w) (a .kind) (a .m) (rowsAt 8 (a .n) (now (a .b)) (a .i)) (heldBy (a .s))) (a .best) (l .left - 1)) below), omega arith)
+    let miss = down-miss goes (a .best) (l .left) x (omega arith) (omega arith) (missed c) in
+    let from = ap (firstDown goes (a .best) (l .left)) here in
+    let on = ap (firstDown goes (a .best) (l .left - 1)) below in
+    (omega (arith, l .inv .0, miss, from, on), omega arith)
 
 returns-3 : tie.Need-returns-3 Inv-loop μ-loop
 unfolding bestOf
 returns-3 c =
     let a = c .before .before .before .args in
+    let goes = wanted (now (a .b)) (a .i) (a .n) (a .kind) (a .w) (a .m) (a .s) in
     let l = c .before .loop in
-    omega (arith, l .inv .0, down-stop (shared (a .w) (a .kind) (a .m) (rowsAt 8 (a .n) (now (a .b)) (a .i)) (heldBy (a .s))) (a .best) (l .left) (a .s .top + 1 - (a .w - l .left)) (omega arith))
+    omega (arith, l .inv .0, down-stop goes (a .best) (l .left) (a .s .top + 1 - (a .w - l .left)) (omega arith))
 
 pub better-spec : {M : Type 1} → statement M
 better-spec =

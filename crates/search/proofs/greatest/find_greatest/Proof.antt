@@ -1,11 +1,13 @@
 -- `greatest::find_greatest` meets its contract: look by look no tick that enough rows hold is left above x.
 -- Assumes nothing.
 use borrow.Author.Needs.{needs}
-use mathlib.Core.Path.{_≡_, sym, ap, _∙_, subst}
-use Prim.Native.Nat.{ℕ, _+_, _-_, _*_, _≤_, _<_, max}
+use mathlib.Core.Path.{_≡_, sym}
+use Prim.Native.Nat.{_≤_, max}
 use native.Mathlib.Omega.{arith}
 use denote.Ref.{now}
-use Rattle.evidence.specs.Holders.{bestOf, greatest}
+use Rattle.fields.specs.Field.{Bytes}
+use Rattle.sets.specs.Sets.{maskBytes, tickCount}
+use Rattle.evidence.specs.Holders.{bestOf}
 use Rattle.evidence.specs.Rows.{rowsAt}
 use Rattle.evidence.proofs.Columns.{holders-far}
 use Rattle.search.proofs.Found.{NoneFrom, lookedAt, none-seen, none-better, found, none-left}
@@ -13,7 +15,7 @@ use Rattle.search.proofs.greatest.find_greatest.Statement.{statement}
 use Rattle.search.proofs.greatest.find_greatest.Tie as tie
 
 abbrev Inv-loop : tie.InvT-loop
-Inv-loop b i n kind w m low place enough short x₀ x = NoneFrom w kind m low (rowsAt 8 n b i) x × (x ≤ 4294967296)
+Inv-loop b i n kind w m low place enough short x₀ x = NoneFrom w kind m low (rowsAt maskBytes n b i) x × (x ≤ tickCount)
 
 abbrev μ-loop : tie.MeasureT-loop
 μ-loop b i n kind w m low place enough short x₀ x = x
@@ -30,7 +32,10 @@ countable-requires c κs = omega arith
 loop-holds : tie.Need-loop-holds Inv-loop μ-loop
 loop-holds c =
     let a = c .before .before .before .before .args in
-    (λ t p l r. omega (arith, r, holders-far (a .w) (a .kind) t 8 (a .n) (now (a .b)) (a .i) (λ k. c .before .before .before .shared-slice-known .given k .fits) p), omega arith)
+    let bytes : Bytes (now (a .b)) = λ k. c .before .before .before .shared-slice-known .given k .fits in (
+      λ t p l r. omega (arith, r, holders-far (a .w) (a .kind) t maskBytes (a .n) (now (a .b)) (a .i) bytes p),
+      omega arith,
+    )
 
 scan-requires : tie.Need-scan-requires Inv-loop μ-loop
 scan-requires c κs = omega arith
@@ -45,22 +50,30 @@ better-requires : tie.Need-better-requires Inv-loop μ-loop
 better-requires c κs = omega arith
 
 -- the counters are not asked for more than is enough
-few : (c : tie.After-scan Inv-loop μ-loop) → c .before .before .before .countable .result ≤ max 1 (c .before .before .before .before .before .before .before .args .m)
-few c = omega (arith, c .before .before .before .countable .ensures .0, c .before .before .before .before .at-least-one .ensures)
+few :
+    (c : tie.After-scan Inv-loop μ-loop) →
+    c .before .before .before .countable .result ≤ max 1 (c .before .before .before .before .before .before .before .args .m)
+few c = omega (arith, c .before .before .before .countable .ensures, c .before .before .before .before .at-least-one .ensures)
 
 -- what is found among the ticks looked at
-best : (c : tie.After-better Inv-loop μ-loop) → let a = c .before .before .before .before .before .before .before .before .before .before .args in
-    c .better .result ≡ max (a .low) (bestOf (a .w) (a .kind) (max 1 (a .m)) (a .low) (rowsAt 8 (a .n) (now (a .b)) (a .i)) (lookedAt (a .w) (a .kind) (a .m) (a .low) (rowsAt 8 (a .n) (now (a .b)) (a .i)) (c .before .before .before .before .before .loop .x) (c .before .before .before .scan .result)))
-best c =
+best :
+    (c : tie.After-better Inv-loop μ-loop) →
     let a = c .before .before .before .before .before .before .before .before .before .before .args in
-    c .better .ensures
-    ∙ ap (λ (m : ℕ). max (a .low) (bestOf (a .w) (a .kind) m (a .low) (rowsAt 8 (a .n) (now (a .b)) (a .i)) (lookedAt (a .w) (a .kind) (a .m) (a .low) (rowsAt 8 (a .n) (now (a .b)) (a .i)) (c .before .before .before .before .before .loop .x) (c .before .before .before .scan .result)))) (c .before .before .before .before .before .before .before .at-least-one .ensures)
+    let rows = rowsAt maskBytes (a .n) (now (a .b)) (a .i) in
+    let x = c .before .before .before .before .before .loop .x in
+    let looked = lookedAt (a .w) (a .kind) (a .m) (a .low) rows x (c .before .before .before .scan .result) in
+    c .better .result ≡ max (a .low) (bestOf (a .w) (a .kind) (max 1 (a .m)) (a .low) rows looked)
+best c = rw (c .before .before .before .before .before .before .before .at-least-one .ensures) at (c .better .ensures)
 
 returns : tie.Need-returns Inv-loop μ-loop
 returns c =
     let a = c .before .before .before .before .before .before .before .before .before .before .before .args in
+    let rows = rowsAt maskBytes (a .n) (now (a .b)) (a .i) in
     let l = c .before .before .before .before .before .before .loop in
-    let is = found (a .w) (a .kind) (a .m) (a .low) (rowsAt 8 (a .n) (now (a .b)) (a .i)) (few (c .before .before .before .before)) (c .before .before .before .before .scan .ensures) (l .inv .0) (c .before .better .result) (best (c .before)) (c .if2 .taken) in
+    let scanned = c .before .before .before .before in
+    let is =
+    found (a .w) (a .kind) (a .m) (a .low) rows (few scanned) (scanned .scan .ensures) (l .inv .0) (c .before .better .result)
+    (best (c .before)) (c .if2 .taken) in
     (is .0, omega (arith, is .1, l .inv .1))
 
 loop-less : tie.Need-loop-less Inv-loop μ-loop
@@ -69,9 +82,12 @@ loop-less c = omega arith
 loop-again : tie.Need-loop-again Inv-loop μ-loop
 loop-again c =
     let a = c .before .before .before .before .before .before .before .before .before .before .before .args in
-    let look = c .before .before .before .before .scan .ensures in
+    let rows = rowsAt maskBytes (a .n) (now (a .b)) (a .i) in
+    let scanned = c .before .before .before .before in
+    let look = scanned .scan .ensures in
     let inv = c .before .before .before .before .before .before .loop .inv in
-    (none-better (a .w) (a .kind) (a .m) (a .low) (rowsAt 8 (a .n) (now (a .b)) (a .i)) (few (c .before .before .before .before)) look (inv .0) (best (c .before)) (c .if2 .left), omega (arith, look .less, inv .1))
+    let none = none-better (a .w) (a .kind) (a .m) (a .low) rows (few scanned) look (inv .0) (best (c .before)) (c .if2 .left) in
+    (none, omega (arith, look .less, inv .1))
 
 loop-less-2 : tie.Need-loop-less-2 Inv-loop μ-loop
 loop-less-2 c = omega arith
@@ -79,15 +95,19 @@ loop-less-2 c = omega arith
 loop-again-2 : tie.Need-loop-again-2 Inv-loop μ-loop
 loop-again-2 c =
     let a = c .before .before .before .before .before .before .before .before .before .args in
-    let seen = c .before .before .scan .ensures in
-    let inv = c .before .before .before .before .loop .inv in
-    (none-seen (a .w) (a .kind) (a .m) (a .low) (rowsAt 8 (a .n) (now (a .b)) (a .i)) (few (c .before .before)) seen (inv .0) (omega arith), omega (arith, seen .less, inv .1))
+    let rows = rowsAt maskBytes (a .n) (now (a .b)) (a .i) in
+    let look = c .before .before .scan .ensures in
+    let inv = c .before .before .before .before .loop .inv in (
+      none-seen (a .w) (a .kind) (a .m) (a .low) rows (few (c .before .before)) look (inv .0) (omega arith),
+      omega (arith, look .less, inv .1),
+    )
 
 returns-2 : tie.Need-returns-2 Inv-loop μ-loop
 returns-2 c =
     let a = c .before .before .before .before .before .before .args in
+    let rows = rowsAt maskBytes (a .n) (now (a .b)) (a .i) in
     let l = c .before .loop in
-    (sym (none-left (a .w) (a .kind) (a .m) (a .low) (rowsAt 8 (a .n) (now (a .b)) (a .i)) (l .inv .0) (omega arith)), omega arith)
+    (sym (none-left (a .w) (a .kind) (a .m) (a .low) rows (l .inv .0) (omega arith)), omega arith)
 
 pub find-greatest-spec : {M : Type 1} → statement M
 find-greatest-spec =

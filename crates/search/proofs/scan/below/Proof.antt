@@ -1,6 +1,6 @@
 -- `scan::below` meets its contract: the two ways of its test are the two cases of the definition.
 -- Assumes nothing.
-use mathlib.Core.Path.{_≡_, sym}
+use mathlib.Core.Path.{sym}
 use native.Mathlib.Omega.{arith}
 use Rattle.search.proofs.Scans.{reaches, reaches-not}
 use Rattle.search.proofs.scan.below.Statement.{statement}

@@ -2,15 +2,16 @@
 -- its mask.
 -- Assumes nothing.
 use borrow.Author.Needs.{needs}
-use mathlib.Core.Path.{_≡_, refl, sym, ap, _∙_, subst}
+use mathlib.Core.Path.{_≡_, ap, _∙_, subst}
 use mathlib.Core.Logic.{inr}
-use Prim.Native.Nat.{ℕ, _+_, _-_, _≤_, _<_}
+use Prim.Native.Nat.{ℕ, _-_}
 use native.Mathlib.Omega.{arith}
 use denote.Ref.{now}
 use Rattle.evidence.specs.Rows.{setAt}
-use Rattle.sets.specs.Ticks.{Held, bit, holds}
+use Rattle.sets.specs.Sets.{maskBytes}
+use Rattle.sets.specs.Ticks.{Held, holds}
 use Rattle.sets.proofs.Members.{holds-above, holds-below}
-use Rattle.search.specs.Levels.{reached, Counts}
+use Rattle.search.specs.Levels.{Counts}
 use Rattle.search.specs.declared.levels.Levels.{Levels}
 use Rattle.search.proofs.scan.count_row.Statement.{statement}
 use Rattle.search.proofs.scan.count_row.Tie as tie
@@ -35,7 +36,8 @@ returns : tie.Need-returns
 unfolding setAt
 returns c t p q =
     let a = c .before .before .before .args in
-    idle (a .levels) (a .x - 1 - t) (holds-above (a .w) (setAt 8 (now (a .b)) (a .p)) t (omega (arith, c .if1 .taken, c .before .word .ensures)))
+    idle (a .levels) (a .x - 1 - t)
+    (holds-above (a .w) (setAt maskBytes (now (a .b)) (a .p)) t (omega (arith, c .if1 .taken, c .before .word .ensures)))
 
 add-if2 : tie.Need-add-if2
 add-if2 c = search needs
@@ -44,7 +46,8 @@ returns-2 : tie.Need-returns-2
 unfolding setAt
 returns-2 c t p q =
     let a = c .before .before .before .before .args in
-    idle (a .levels) (a .x - 1 - t) (holds-below (a .w) (setAt 8 (now (a .b)) (a .p)) t (omega (arith, c .if2 .taken, c .before .before .word .ensures)))
+    idle (a .levels) (a .x - 1 - t)
+    (holds-below (a .w) (setAt maskBytes (now (a .b)) (a .p)) t (omega (arith, c .if2 .taken, c .before .before .word .ensures)))
 
 read-set-requires : tie.Need-read-set-requires
 read-set-requires c κs = search needs

@@ -1,8 +1,7 @@
 -- `scan::next_below` meets its contract: a set whose top is not below x tells nothing new; else what it reaches is compared.
 -- Assumes nothing.
 use borrow.Author.Needs.{needs}
-use mathlib.Core.Path.{_≡_, sym}
-use Prim.Native.Nat.{_-_, max, min}
+use mathlib.Core.Path.{sym}
 use native.Mathlib.Omega.{arith}
 use Rattle.search.proofs.Scans.{next-stays, next-falls}
 use Rattle.search.proofs.scan.next_below.Statement.{statement}
@@ -25,7 +24,8 @@ greater-requires c κs = search needs
 returns-2 : tie.Need-returns-2
 returns-2 c =
     let a = c .before .before .before .before .args in
-    omega (arith, next-falls (a .w) (a .x) (a .next) (a .y) (omega arith), c .before .before .less .ensures, c .before .lesser .ensures, c .greater .ensures)
+    let falls = next-falls (a .w) (a .x) (a .next) (a .y) (omega arith) in
+    omega (arith, falls, c .before .before .less .ensures, c .before .lesser .ensures, c .greater .ensures)
 
 pub next-below-spec : {M : Type 1} → statement M
 next-below-spec =

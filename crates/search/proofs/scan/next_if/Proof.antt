@@ -1,7 +1,6 @@
 -- `scan::next_if` meets its contract: fewer rows than m, or not.
 -- Assumes nothing.
-use borrow.Author.Needs.{needs}
-use mathlib.Core.Path.{_≡_, sym}
+use mathlib.Core.Path.{sym}
 use native.Mathlib.Omega.{arith}
 use Rattle.search.proofs.Scans.{next-none, next-same}
 use Rattle.search.proofs.scan.next_if.Statement.{statement}

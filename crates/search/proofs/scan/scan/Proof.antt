@@ -1,23 +1,26 @@
--- `scan::scan` meets its contract: row by row the counters go on and the next look comes nearer, and past the last row they tell of all rows.
+-- `scan::scan` meets its contract: row by row the counters go on and the next look comes nearer, and past the last row they tell of
+-- all rows.
 -- Assumes nothing.
 use borrow.Author.Needs.{needs}
-use mathlib.Core.Path.{_≡_, sym, ap, ap₂, _∙_, subst}
-use Prim.Native.Nat.{ℕ, _+_, _-_, _*_, _≤_, _<_}
+use mathlib.Core.Path.{_≡_, sym, ap, _∙_, subst}
+use Prim.Native.Nat.{ℕ, _+_, _-_, _*_, _≤_}
 use native.Mathlib.Omega.{arith}
 use denote.Ref.{now}
 use lib.ListN.{length}
+use Rattle.sets.specs.Sets.{maskBytes}
+use Rattle.sets.specs.Ticks.{holds}
 use Rattle.evidence.specs.Holders.{holders}
-use Rattle.evidence.specs.Rows.{setPlace, setAt, rowsAt}
-use Rattle.sets.specs.Ticks.{Held, holds}
+use Rattle.evidence.specs.Rows.{rowBytes, setAt, rowsAt}
 use Rattle.evidence.proofs.Columns.{holders-down, holders-end}
-use Rattle.search.specs.Scan.{Counted, nextBelow, reaching}
+use Rattle.search.specs.Scan.{nextBelow, reaching}
 use Rattle.search.proofs.Scans.{Scanning, scan-first, scan-row, scan-shown, scan-between, scan-less}
 use Rattle.search.proofs.scan.scan.Statement.{statement}
 use Rattle.search.proofs.scan.scan.Tie as tie
 
 abbrev Inv-loop : tie.InvT-loop
 Inv-loop b i n place kind w m x levels₀ next₀ rest₀ at₀ left₀ levels next rest at left =
-    Scanning w kind m x (rowsAt 8 n b i) (rowsAt 8 left b at) levels next rest × (at + left * 28 ≤ length b) × (rest + left ≤ n)
+    Scanning w kind m x (rowsAt maskBytes n b i) (rowsAt maskBytes left b at) levels next rest
+    × (at + left * rowBytes ≤ length b) × (rest + left ≤ n)
 
 abbrev μ-loop : tie.MeasureT-loop
 μ-loop b i n place kind w m x levels₀ next₀ rest₀ at₀ left₀ levels next rest at left = left
@@ -28,7 +31,7 @@ short-of-requires c κs = search needs
 loop-holds : tie.Need-loop-holds Inv-loop μ-loop
 loop-holds c =
     let pre = c .before .before .pre in
-    (scan-first (pre .3) (pre .6) (c .short-of .ensures), pre .0, omega arith)
+    (scan-first (pre .narrow) (pre .above) (c .short-of .ensures), pre .inside, omega arith)
 
 add-p : tie.Need-add-p Inv-loop μ-loop
 add-p c = omega arith
@@ -66,18 +69,25 @@ loop-less c = omega arith
 loop-again : tie.Need-loop-again Inv-loop μ-loop
 unfolding setAt
 loop-again c =
-    let a = c .before .before .before .before .before .before .before .before .args in
+    let start = c .before .before .before .before .before .before .before .before in
+    let a = start .args in
+    let b = now (a .b) in
     let l = c .before .before .before .before .before .loop in
-    let here = setAt 8 (now (a .b)) (l .at + a .place) in
-    let down : (t : ℕ) → holders (a .w) (a .kind) t (rowsAt 8 (l .left) (now (a .b)) (l .at)) ≡ holds (a .w) here t + holders (a .w) (a .kind) t (rowsAt 8 (l .left - 1) (now (a .b)) (l .at + 28)) =
-    λ t. holders-down 8 (l .left) (now (a .b)) (l .at) (a .w) (a .kind) t (c .before .before .before .before .loop-test .taken)
-    ∙ ap (λ (p : ℕ). holds (a .w) (setAt 8 (now (a .b)) (l .at + p)) t + holders (a .w) (a .kind) t (rowsAt 8 (l .left - 1) (now (a .b)) (l .at + 28))) (sym (c .before .before .before .before .before .before .before .before .pre .1)) in
+    let rows = rowsAt maskBytes (l .left - 1) b (l .at + rowBytes) in
+    let here = setAt maskBytes b (l .at + a .place) in
+    let some = c .before .before .before .before .loop-test .taken in
+    let down : (t : ℕ) →
+    holders (a .w) (a .kind) t (rowsAt maskBytes (l .left) b (l .at)) ≡ holds (a .w) here t + holders (a .w) (a .kind) t rows =
+    λ t. holders-down maskBytes (l .left) b (l .at) (a .w) (a .kind) t some
+    ∙ ap (λ (p : ℕ). holds (a .w) (setAt maskBytes b (l .at + p)) t + holders (a .w) (a .kind) t rows) (sym (start .pre .placed)) in
     let top = c .before .before .word .ensures in
+    let counted = c .before .before .before .count-row in
     let next = c .before .next-below .ensures ∙ ap (λ (top : ℕ). nextBelow (a .w) (a .x) (l .next) (top + 1)) top in
     let under = ap (λ (k : ℕ). l .rest + k) (c .below .ensures .0 ∙ ap (λ (top : ℕ). reaching (a .x) (top + 1)) top) in
-    let row = scan-row here (l .inv .0) down (c .before .before .before .count-row .ensures) in (
-      subst (Scanning (a .w) (a .kind) (a .m) (a .x) (rowsAt 8 (a .n) (now (a .b)) (a .i)) (rowsAt 8 (l .left - 1) (now (a .b)) (l .at + 28)) (c .before .before .before .count-row .result) (c .before .next-below .result)) (sym under)
-          (subst (λ (q : ℕ). Scanning (a .w) (a .kind) (a .m) (a .x) (rowsAt 8 (a .n) (now (a .b)) (a .i)) (rowsAt 8 (l .left - 1) (now (a .b)) (l .at + 28)) (c .before .before .before .count-row .result) q (l .rest + reaching (a .x) (here .top + 1))) (sym next) row),
+    let row = scan-row here (l .inv .0) down (counted .ensures) in
+    let known : ℕ → ℕ → Type 0 = Scanning (a .w) (a .kind) (a .m) (a .x) (rowsAt maskBytes (a .n) b (a .i)) rows (counted .result) in (
+      subst (known (c .before .next-below .result)) (sym under)
+          (subst (λ (q : ℕ). known q (l .rest + reaching (a .x) (here .top + 1))) (sym next) row),
       omega arith,
       omega arith,
     )
@@ -87,14 +97,16 @@ next-if-requires c κs = search needs
 
 returns : tie.Need-returns Inv-loop μ-loop
 returns c =
-    let a = c .before .before .before .before .before .args in
+    let start = c .before .before .before .before .before in
+    let a = start .args in
     let l = c .before .before .loop in
     let h = l .inv .0 in
-    let end : (t : ℕ) → holders (a .w) (a .kind) t (rowsAt 8 (l .left) (now (a .b)) (l .at)) ≡ 0 = λ t. holders-end (a .w) (a .kind) t 8 (l .left) (now (a .b)) (l .at) (omega arith) in
+    let end : (t : ℕ) → holders (a .w) (a .kind) t (rowsAt maskBytes (l .left) (now (a .b)) (l .at)) ≡ 0 =
+    λ t. holders-end (a .w) (a .kind) t maskBytes (l .left) (now (a .b)) (l .at) (omega arith) in
     let next = c .next-if .ensures in
     record {
       shown = scan-shown h end;
-      between = λ t p q. scan-between h end (c .before .before .before .before .before .pre .4) t p (omega (arith, q, next));
+      between = λ t p q. scan-between h end (start .pre .some) t p (omega (arith, q, next));
       less = omega (arith, scan-less h end, next);
     }
 

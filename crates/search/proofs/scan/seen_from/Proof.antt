@@ -1,11 +1,11 @@
 -- `scan::seen_from` meets its contract: the mask is shifted up or down, or is too far away to be seen.
 -- Assumes nothing.
 use borrow.Author.Needs.{needs}
-use mathlib.Core.Path.{_≡_, sym, ap, _∙_}
+use mathlib.Core.Path.{ap, _∙_}
 use Prim.Native.Nat.{ℕ, _+_, _-_, _*_, _/_, _%_, _^_}
 use native.Mathlib.Omega.{arith}
 use Rattle.sets.specs.Ticks.{bit}
-use Rattle.sets.specs.Sets.{heldBy}
+use Rattle.sets.specs.Sets.{maskBits, heldBy}
 use Rattle.search.proofs.Shows.{shown-up, shown-down, shown-above, shown-below}
 use Rattle.search.proofs.scan.seen_from.Statement.{statement}
 use Rattle.search.proofs.scan.seen_from.Tie as tie
@@ -32,8 +32,8 @@ returns : tie.Need-returns
 returns c t p q =
     let a = c .before .before .before .before .args in
     let x = a .x in
-    ap (λ (mask : ℕ). bit (mask * 2 ^ (x - (a .s .top + 1)) % 2 ^ 64) (x - 1 - t)) (c .before .before .before .cut .ensures)
-    ∙ shown-up (a .w) (heldBy (a .s)) x (omega arith) (omega arith) t p q
+    ap (λ (mask : ℕ). bit (mask * 2 ^ (x - (a .s .top + 1)) % 2 ^ maskBits) (x - 1 - t)) (c .before .before .before .cut .ensures)
+    ∙ shown-up (a .w) (heldBy (a .s)) x maskBits (omega arith) (omega arith) t p q
 
 returns-2 : tie.Need-returns-2
 returns-2 c =

@@ -1,15 +1,13 @@
 -- `Levels::raised` meets its contract: rank by rank a bit and what is carried to it are the bit that stays and what is carried on, and
 -- what is carried past the last rank runs over.
 -- Assumes nothing.
-use mathlib.Core.Path.{_≡_}
-use mathlib.Core.Logic.{_⊎_, inl, inr}
-use Prim.Native.Nat.{ℕ, _+_, _*_, _≤_, _<_, max}
+use mathlib.Core.Logic.{inl, inr}
 use native.Mathlib.Decide.{ℕ-discrete}
 use native.Mathlib.Omega.{arith}
 use lib.Bits.{bitAnd}
 use Rattle.sets.specs.Ticks.{bit}
 use Rattle.sets.proofs.Masks.{bit-le}
-use Rattle.search.specs.Levels.{reached, Counts}
+use Rattle.search.specs.Levels.{reached}
 use Rattle.search.proofs.Bits.{bit-sum, bit-or}
 use Rattle.search.proofs.levels.Levels.raised.Statement.{statement}
 use Rattle.search.proofs.levels.Levels.raised.Tie as tie

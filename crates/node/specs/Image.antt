@@ -2,7 +2,7 @@
 -- record, so that another window with wider masks is another value of it and not another definition.
 use Prim.Native.Nat.{ℕ, _+_, _*_, _≤_, _<_}
 use mathlib.Core.List.{List, map}
-use mathlib.Core.Bool.{Bool, true, false, cond, not, _&&_, _||_}
+use mathlib.Core.Bool.{Bool, not, _&&_}
 use lib.ListN.{length, getD}
 use lib.Dec.{ltb, leb, eqb}
 use Rattle.fields.specs.Field.{field, putField, words}
@@ -10,11 +10,10 @@ use Rattle.forms.specs.Roster.{mostLines, rosterNumber}
 use Rattle.sets.specs.Sets.{maskBytes}
 use Rattle.evidence.specs.Rows.{Row, rowSize, rowsAt, putRows, properRows}
 use Rattle.rules.specs.Rules.{firstRule}
+pub use Rattle.rules.specs.Rules.{atRest}
 use Rattle.rules.specs.Delivery.{State}
 use Rattle.rules.specs.Describe.{window}
 use Rattle.rules.specs.declared.node.Node.{Node}
-use Rattle.rules.specs.declared.node.Rule.{Rule}
-use Rattle.rules.specs.declared.node.Rule.the-variants.{Rest, Echo, Tick, Jump, Wake}
 
 -- bytes of the header; the rows stand behind it
 abbrev pub headerSize : ℕ
@@ -89,13 +88,6 @@ unfoldable pub fixedHeader : Layout → List ℕ → Bool
 fixedHeader L b =
     eqb (getD b 3 0) (L .mark) && (eqb (field 2 b 16) headerSize && (eqb (field 2 b 18) (imageSize L (getD b 0 0))
     && (eqb (field 4 b 20) 0 && (eqb (field 4 b 24) 0 && eqb (field 4 b 28) 0))))
-
-abbrev pub atRest : Rule → Bool
-atRest Rest = true
-atRest Echo = false
-atRest Tick = false
-atRest (Jump l) = false
-atRest (Wake x) = false
 
 -- a roster that 2 to 5 would accept, mode 0 or 1, last echo ≤ k ≤ last tick, proper sets, and no rule that can fire
 unfoldable pub soundState : ℕ → ℕ → State → Bool

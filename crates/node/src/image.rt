@@ -9,7 +9,6 @@ use fields::field::word;
 use forms::answer::Verdict;
 use forms::roster::judge;
 use rules::node::Node;
-use rules::node::Rule;
 use sets::ticks::Ticks;
 ghost use mathlib.Core.Path.{_≡_};
 ghost use Prim.Native.Nat.{_+_, _*_, _≤_, _<_};
@@ -20,7 +19,7 @@ ghost use Rattle.forms.specs.Roster.{mostLines};
 ghost use Rattle.sets.specs.Sets.{maskBytes};
 ghost use Rattle.evidence.specs.Rows.{putRows};
 ghost use Rattle.rules.specs.Describe.{window, lastTick, freshRows};
-ghost use Rattle.node.specs.Image.{layout, headerSize, imageSize, nodeOf, stateWith, fixedHeader, atRest};
+ghost use Rattle.node.specs.Image.{layout, headerSize, imageSize, nodeOf, stateWith, fixedHeader};
 ghost use Rattle.node.specs.Image.{Writable, putClock, putFixed, putNode, soundState, soundImage};
 
 // Bytes of the header; the rows stand behind it.
@@ -73,12 +72,6 @@ fn has_fixed_header(b: &[u8]) -> bool
     word(b, 28) == 0
 }
 
-fn is_at_rest(rule: Rule) -> bool
-    ensures { λ r. ⌜ r ≡ atRest rule ⌝ }
-{
-    if let Rule::Rest = rule { true } else { false }
-}
-
 // Whether the node and its rows are as a sound image holds them.
 fn is_sound_state(b: &[u8], node: Node) -> bool
     requires { ⌜ imageSize layout (node .lines) ≤ length (now b) ⌝ }
@@ -100,7 +93,7 @@ fn is_sound_state(b: &[u8], node: Node) -> bool
     if !are_proper(b, HEADER, n, Node::WINDOW, Node::LAST_TICK) {
         return false;
     }
-    is_at_rest(node.rule(b, HEADER))
+    node.rule(b, HEADER).is_at_rest()
 }
 
 // Whether a buffer holds a sound image: all that number 8 asks.

@@ -3,60 +3,23 @@
 -- fire only at k, k + 1 or one of these three; R4 and R5 fire at most once; R1 or R2 at most once for each value of k. The
 -- potential below falls with each firing.
 -- Assumes nothing.
-use mathlib.Core.Path.{_≡_, refl, sym, ap, _∙_, subst}
+use mathlib.Core.Path.{_≡_, refl, sym, subst}
 use mathlib.Core.Logic.{_⊎_, inl, inr}
-use mathlib.Core.Bool.{Bool, true, false, cond, _&&_}
-use mathlib.Core.List.{List, [], _∷_, List·Memᴰ}
+use mathlib.Core.Bool.{false, true≢false}
+use mathlib.Core.List.{List}
 use Prim.Native.Nat.{ℕ, zero, suc, _+_, _-_, _*_, _≤_, _<_, min, max}
-use native.Mathlib.Decide.{decLe, decLt}
+use native.Mathlib.Decide.{decLe}
 use native.Mathlib.Omega.{arith}
-use borrow.Author.Tests.{leb-true, leb-false, ltb-true, ltb-false, eqb-true, eqb-false}
-use lib.Dec.{ltb, leb, eqb}
 use Rattle.evidence.specs.Rows.{Row, credit}
-use Rattle.sets.specs.Ticks.{added}
 use Rattle.evidence.specs.Holders.{holders, greatest}
 use Rattle.evidence.proofs.Greatest.{greatest-held, greatest-most, greatest-none}
 use Rattle.evidence.proofs.Growth.{added-near, holders-less}
-use Rattle.rules.specs.Rules.{canR1, canR2, canR3, jumpTo, wakeAt, orJump, orWake, firstRule, woken, fired, said, Settled, firing, settle}
+use Rattle.rules.specs.Delivery.{State, settled, delivered}
+use Rattle.rules.specs.Rules.{jumpTo, firstRule, atRest, fired, Settled, still, settle}
 use Rattle.rules.specs.declared.node.Node.{Node}
 use Rattle.rules.specs.declared.node.Rule.{Rule}
 use Rattle.rules.specs.declared.node.Rule.the-variants.{Rest, Echo, Tick, Jump, Wake}
-
--- ---- what a rule that comes first tells
-
-abbrev pub Told : ℕ → ℕ → List Row → Node → Rule → Type 0
-Told w last rows p Rest = (jumpTo w p rows ≡ 0) × (wakeAt w p rows ≡ 0)
-Told w last rows p Echo = p .sent < p .tick
-Told w last rows p Tick = (p .lines - p .faults ≤ holders w 2 (p .tick) rows) × (p .tick < last)
-Told w last rows p (Jump l) = jumpTo w p rows ≡ suc l
-Told w last rows p (Wake x) = (p .mode ≡ 0) × (greatest w 1 (p .faults + 1) 0 rows ≡ suc x)
-
-and-first : (a b : Bool) → (a && b) ≡ true → a ≡ true
-and-first true b e = refl
-and-first false b e = e
-
-and-second : (a b : Bool) → (a && b) ≡ true → b ≡ true
-and-second true b e = e
-and-second false b e = absurd (subst (λ (x : Bool). elim x as (λ (y : Bool). Type 0) [ true ↦ ⊥ | false ↦ Unit {0} ]) e tt)
-
-pub told : (w last : ℕ) (rows : List Row) (p : Node) → Told w last rows p (firstRule w last rows p)
-unfolding firstRule
-told w last rows p = go (canR1 w p rows) refl (canR2 w p rows) refl (canR3 w last p rows) refl (jumpTo w p rows) refl (wakeAt w p rows) refl
-  where
-    woke : (x : ℕ) → (t : Bool) → eqb (p .mode) 0 ≡ t → cond t (greatest w 1 (p .faults + 1) 0 rows) 0 ≡ suc x → (p .mode ≡ 0) × (greatest w 1 (p .faults + 1) 0 rows ≡ suc x)
-    woke x true e f = (eqb-true (p .mode) 0 e, f)
-    woke x false e f = absurd (omega arith)
-
-    go : (a : Bool) → canR1 w p rows ≡ a → (b : Bool) → canR2 w p rows ≡ b → (c : Bool) → canR3 w last p rows ≡ c → (l : ℕ) → jumpTo w p rows ≡ l → (x : ℕ) → wakeAt w p rows ≡ x → Told w last rows p (cond a Echo (cond b Echo (cond c Tick (orJump l (orWake x)))))
-    go true e b f c g l h x i = ltb-true (p .sent) (p .tick) (and-second (leb (p .faults + 1) (holders w 1 (p .tick) rows)) (ltb (p .sent) (p .tick)) e)
-    go false e true f c g l h x i = ltb-true (p .sent) (p .tick) (and-second (leb (p .faults + 1) (holders w 2 (p .tick) rows)) (ltb (p .sent) (p .tick)) f)
-    go false e false f true g l h x i = (
-      leb-true (p .lines - p .faults) (holders w 2 (p .tick) rows) (and-first (leb (p .lines - p .faults) (holders w 2 (p .tick) rows)) (ltb (p .tick) last) g),
-      ltb-true (p .tick) last (and-second (leb (p .lines - p .faults) (holders w 2 (p .tick) rows)) (ltb (p .tick) last) g),
-    )
-    go false e false f false g (suc l) h x i = h
-    go false e false f false g zero h (suc x) i = woke x (eqb (p .mode) 0) refl i
-    go false e false f false g zero h zero i = (h, i)
+use Rattle.rules.proofs.Firing.{Told, told, rest-or, fired-same, Fires, settle-induction}
 
 -- ---- the potential
 
@@ -142,7 +105,8 @@ potential w rows k₀ j p = 2 * five k₀ j (p .tick) + one (p .tick - p .sent) 
 
 pub potential-most : (w : ℕ) (rows : List Row) (k₀ j : ℕ) (p : Node) → potential w rows k₀ j p ≤ 13
 unfolding potential
-potential-most w rows k₀ j p = omega (arith, five-most k₀ j (p .tick), one-le (p .tick - p .sent), one-le (jumpTo w p rows), one-le (1 - p .mode))
+potential-most w rows k₀ j p =
+    omega (arith, five-most k₀ j (p .tick), one-le (p .tick - p .sent), one-le (jumpTo w p rows), one-le (1 - p .mode))
 
 -- a jump that can be made from a higher tick could be made from a lower one
 jump-falls : (w m low high : ℕ) (rows : List Row) → low ≤ high → one (greatest w 2 m high rows) ≤ one (greatest w 2 m low rows)
@@ -172,9 +136,16 @@ module _ (w last k₀ j : ℕ) (rows : List Row) where
   abbrev pub Calm : ℕ → Type 0
   Calm f = (t : ℕ) → k₀ + 2 ≤ t → f + 1 ≤ holders w 2 t rows → (t ≤ j) × (j ≤ t + 2)
 
-  fire-lowers : (p : Node) (r : Rule) → (r ≡ Rest → ⊥) → Calm (p .faults) → 2 * p .faults + 1 ≤ p .lines → k₀ ≤ p .tick → Told w last rows p r → potential w rows k₀ j (fired p r) + 1 ≤ potential w rows k₀ j p
+  fire-lowers :
+      (p : Node) (r : Rule)
+      → atRest r ≡ false
+      → Calm (p .faults)
+      → 2 * p .faults + 1 ≤ p .lines
+      → k₀ ≤ p .tick
+      → Told w last rows p r
+      → potential w rows k₀ j (fired p r) + 1 ≤ potential w rows k₀ j p
   unfolding potential fired
-  fire-lowers p Rest ne calm n q t = absurd (ne refl)
+  fire-lowers p Rest ne calm n q t = absurd (true≢false ne)
   fire-lowers p Echo ne calm n q t = omega (arith, one-none (p .tick - p .tick) (omega arith), one-some (p .tick - p .sent) (omega arith))
   fire-lowers p Tick ne calm n q t =
       omega
@@ -201,70 +172,90 @@ module _ (w last k₀ j : ℕ) (rows : List Row) where
         one-none (max (x - 1) (p .tick) - max (p .sent) (max (x - 1) (p .tick))) (omega arith),
       )
 
-  -- what a firing keeps
-  fire-keeps : (p : Node) (r : Rule) → Told w last rows p r → (fired p r .faults ≡ p .faults) × (fired p r .lines ≡ p .lines) × (p .tick ≤ fired p r .tick)
+  -- k never falls
+  fire-later : (p : Node) (r : Rule) → Told w last rows p r → p .tick ≤ fired p r .tick
   unfolding fired
-  fire-keeps p Rest t = (refl, refl, omega arith)
-  fire-keeps p Echo t = (refl, refl, omega arith)
-  fire-keeps p Tick t = (refl, refl, omega arith)
-  fire-keeps p (Jump l) t = let h = greatest-held w 2 (p .faults + 1) (p .tick + 2) rows l t in (refl, refl, omega (arith, h .0))
-  fire-keeps p (Wake x) t = (refl, refl, omega arith)
-
-  restOr : (r : Rule) → (r ≡ Rest) ⊎ (r ≡ Rest → ⊥)
-  restOr Rest = inl refl
-  restOr Echo = inr (λ e. tell e)
-    where
-      tell : Echo ≡ Rest → ⊥
-      tell e = let z : _≡_ {A = ℕ} 0 1 = cc in omega arith
-  restOr Tick = inr (λ e. tell e)
-    where
-      tell : Tick ≡ Rest → ⊥
-      tell e = let z : _≡_ {A = ℕ} 0 1 = cc in omega arith
-  restOr (Jump l) = inr (λ e. tell e)
-    where
-      tell : Jump l ≡ Rest → ⊥
-      tell e = let z : _≡_ {A = ℕ} 0 1 = cc in omega arith
-  restOr (Wake x) = inr (λ e. tell e)
-    where
-      tell : Wake x ≡ Rest → ⊥
-      tell e = let z : _≡_ {A = ℕ} 0 1 = cc in omega arith
-
-  firing-rest : (p : Node) (next : Settled) (r : Rule) → r ≡ Rest → firing p r next ≡ record { node = p; records = []; firings = 0 }
-  unfolding firing
-  firing-rest p next r e = ap (λ (x : Rule). firing p x next) e
-
-  firing-goes : (p : Node) (next : Settled) (r : Rule) → (r ≡ Rest → ⊥) → (firing p r next .node ≡ next .node) × (firing p r next .firings ≡ suc (next .firings))
-  unfolding firing
-  firing-goes p next Rest ne = absurd (ne refl)
-  firing-goes p next Echo ne = (refl, refl)
-  firing-goes p next Tick ne = (refl, refl)
-  firing-goes p next (Jump l) ne = (refl, refl)
-  firing-goes p next (Wake x) ne = (refl, refl)
+  fire-later p Rest t = omega arith
+  fire-later p Echo t = omega arith
+  fire-later p Tick t = omega arith
+  fire-later p (Jump l) t = omega (arith, greatest-held w 2 (p .faults + 1) (p .tick + 2) rows l t)
+  fire-later p (Wake x) t = omega arith
 
   -- with a counter of at least the potential, no rule can fire at the end, and the firings are at most the potential
-  pub comes-to-rest : (c : ℕ) (p : Node) → Calm (p .faults) → 2 * p .faults + 1 ≤ p .lines → k₀ ≤ p .tick → potential w rows k₀ j p ≤ c → (firstRule w last rows (settle w last rows c p .node) ≡ Rest) × (settle w last rows c p .firings ≤ potential w rows k₀ j p)
-  unfolding settle
-  comes-to-rest zero p calm n q b = (still (restOr (firstRule w last rows p)), omega arith)
+  pub comes-to-rest :
+      (c : ℕ) (p : Node)
+      → Calm (p .faults)
+      → 2 * p .faults + 1 ≤ p .lines
+      → k₀ ≤ p .tick
+      → potential w rows k₀ j p ≤ c
+      → (firstRule w last rows (settle w last rows c p .node) ≡ Rest) × (settle w last rows c p .firings ≤ potential w rows k₀ j p)
+  comes-to-rest = settle-induction w last rows Resting used (λ c p e calm n q b. (e, omega arith)) fires
     where
-      still : (firstRule w last rows p ≡ Rest) ⊎ (firstRule w last rows p ≡ Rest → ⊥) → firstRule w last rows p ≡ Rest
-      still (inl e) = e
-      still (inr ne) = absurd (omega (arith, fire-lowers p (firstRule w last rows p) ne calm n q (told w last rows p)))
-  comes-to-rest (suc c) p calm n q b = go (restOr (firstRule w last rows p)) (comes-to-rest c (fired p (firstRule w last rows p)))
-    where
-      r : Rule
-      r = firstRule w last rows p
+      Resting : ℕ → Node → Settled → Type 0
+      Resting c p s =
+          Calm (p .faults)
+          → 2 * p .faults + 1 ≤ p .lines
+          → k₀ ≤ p .tick
+          → potential w rows k₀ j p ≤ c
+          → (firstRule w last rows (s .node) ≡ Rest) × (s .firings ≤ potential w rows k₀ j p)
 
-      next : Settled
-      next = settle w last rows c (fired p (firstRule w last rows p))
-
-      go : (r ≡ Rest) ⊎ (r ≡ Rest → ⊥) → (Calm (fired p r .faults) → 2 * fired p r .faults + 1 ≤ fired p r .lines → k₀ ≤ fired p r .tick → potential w rows k₀ j (fired p r) ≤ c → (firstRule w last rows (next .node) ≡ Rest) × (next .firings ≤ potential w rows k₀ j (fired p r))) → (firstRule w last rows (firing p r next .node) ≡ Rest) × (firing p r next .firings ≤ potential w rows k₀ j p)
-      go (inl e) ih = (
-        ap (λ (s : Settled). firstRule w last rows (s .node)) (firing-rest p next r e) ∙ e,
-        subst (λ (s : Settled). s .firings ≤ potential w rows k₀ j p) (sym (firing-rest p next r e)) (omega arith),
+      used : (p : Node) → Resting 0 p (still p)
+      used p calm n q b = (
+        elim (rest-or (firstRule w last rows p)) [
+          | inl e ↦ e
+          | inr ne ↦ absurd (omega (arith, fire-lowers p (firstRule w last rows p) ne calm n q (told w last rows p)))
+        ],
+        omega arith,
       )
-      go (inr ne) ih =
-          let keeps = fire-keeps p r (told w last rows p) in
-          let lower = fire-lowers p r ne calm n q (told w last rows p) in
-          let rest = ih (subst Calm (sym (keeps .0)) calm) (omega (arith, keeps .0, keeps .1)) (omega (arith, keeps .2)) (omega (arith, lower)) in
-          let goes = firing-goes p next r ne in
-          (ap (firstRule w last rows) (goes .0) ∙ rest .0, omega (arith, goes .1, rest .1, lower))
+
+      fires : Fires w last rows Resting
+      fires c p ne ih calm n q b =
+          let rule = firstRule w last rows p in
+          let same = fired-same p rule in
+          let later = fire-later p rule (told w last rows p) in
+          let lower = fire-lowers p rule ne calm n q (told w last rows p) in
+          let rest = ih (subst Calm (sym (same .faults)) calm) (omega arith) (omega arith) (omega arith) in
+          (rest .0, omega arith)
+
+-- ---- one delivery
+
+-- above k + 1 only the ticks of the frame have f + 1 holders, after a frame is credited to a node at rest
+calm-after :
+    (w last : ℕ) (s : State) (port kind j : ℕ)
+    → 0 < w
+    → firstRule w last (s .rows) (s .node) ≡ Rest
+    → Calm w last (s .node .tick) j (credit w port kind j (s .rows)) (s .node .faults)
+calm-after w last s port kind j wide e t p q = near (decLe t j) (decLe j (t + 2))
+  where
+    none : jumpTo w (s .node) (s .rows) ≡ 0
+    none = subst (Told w last (s .rows) (s .node)) e (told w last (s .rows) (s .node)) .0
+
+    few : holders w 2 t (s .rows) < s .node .faults + 1
+    few =
+        elim (decLe (s .node .faults + 1) (holders w 2 t (s .rows))) [
+          | yes h ↦ absurd (omega (arith, none, greatest-most w 2 (s .node .faults + 1) (s .node .tick + 2) (s .rows) t p h (omega arith)))
+          | no h ↦ omega arith
+        ]
+
+    gained : ((t ≤ j) × (j ≤ t + 2) → ⊥) → ⊥
+    gained n = omega (arith, few, holders-less w port kind j 2 t (s .rows) wide (λ m. n (added-near kind j t m)))
+
+    near : Dec (t ≤ j) → Dec (j ≤ t + 2) → (t ≤ j) × (j ≤ t + 2)
+    near (yes a) (yes b) = (a, b)
+    near (yes a) (no b) = absurd (gained (λ h. b (h .1)))
+    near (no a) d = absurd (gained (λ h. a (h .0)))
+
+-- no rule can fire after a delivery to a node at rest, and at most 13 did
+pub delivered-rests :
+    (w last : ℕ) (s : State) (port kind j : ℕ)
+    → 0 < w
+    → 2 * s .node .faults + 1 ≤ s .node .lines
+    → firstRule w last (s .rows) (s .node) ≡ Rest
+    → let d = delivered w last s port kind j in
+    (firstRule w last (d .state .rows) (d .state .node) ≡ Rest) × (d .firings ≤ 13)
+unfolding delivered settled
+delivered-rests w last s port kind j wide many rest =
+    let rows = credit w port kind j (s .rows) in
+    let most = potential-most w rows (s .node .tick) j (s .node) in
+    let r = comes-to-rest w last (s .node .tick) j rows 15 (s .node) (calm-after w last s port kind j wide rest) many (omega arith) (omega arith) in
+    (r .0, omega arith)

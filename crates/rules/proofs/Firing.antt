@@ -1,19 +1,20 @@
--- Laws of the rules: which fires first, that it can, what a firing keeps, and one step of firing until none can.
+-- Laws of the rules: which fires first and what that tells, what a firing keeps, and firing until none can, with the one induction
+-- over it that every other law about settling cites.
 -- Assumes nothing.
 use mathlib.Core.Path.{_≡_, refl, sym, ap, _∙_, subst}
-use mathlib.Core.Bool.{Bool, true, false, cond, _&&_, _||_}
+use mathlib.Core.Bool.{Bool, true, false, cond, _||_, false≢true, and-eq-true-iff}
 use mathlib.Core.Logic.{_⊎_, inl, inr}
-use mathlib.Core.List.{List, [], _∷_, _++_}
+use mathlib.Core.List.{List, [], _∷_}
 use Prim.Native.Nat.{ℕ, zero, suc, _+_, _-_, _≤_, _<_}
 use native.Mathlib.Omega.{arith}
-use borrow.Author.Tests.{ltb-true}
-use lib.Dec.{ltb, leb}
-use lib.ListN.{length, length-append}
+use borrow.Author.Tests.{leb-true, ltb-true, eqb-true}
+use lib.Dec.{ltb, leb, eqb}
+use lib.ListN.{length}
 use Rattle.evidence.specs.Rows.{Row}
-use Rattle.evidence.specs.Holders.{greatest, holders}
-use Rattle.evidence.proofs.Down.{among-above}
+use Rattle.evidence.specs.Holders.{holders, greatest}
+use Rattle.evidence.proofs.Greatest.{greatest-held}
 use Rattle.rules.specs.Record.{Outgoing, broadcast}
-use Rattle.rules.specs.Rules.{canR1, canR2, canR3, jumpTo, wakeAt, orJump, orWake, firstRule, CanFire, woken, fired, said, Settled, firing, settle}
+use Rattle.rules.specs.Rules.{canR1, canR2, canR3, jumpTo, wakeAt, orJump, orWake, firstRule, atRest, CanFire, woken, fired, said, Settled, still, follows, firing, settle}
 use Rattle.rules.specs.declared.node.Node.{Node}
 use Rattle.rules.specs.declared.node.Rule.{Rule}
 use Rattle.rules.specs.declared.node.Rule.the-variants.{Rest, Echo, Tick, Jump, Wake}
@@ -32,41 +33,87 @@ wake-some zero p = absurd (omega arith)
 wake-some (suc x) p = ap Wake (less x)
 
 -- R1 and R2 have the same effect
-pub first-rule : (w last : ℕ) (rows : List Row) (p : Node) → firstRule w last rows p ≡ cond (canR1 w p rows || canR2 w p rows) Echo (cond (canR3 w last p rows) Tick (orJump (jumpTo w p rows) (orWake (wakeAt w p rows))))
+pub first-rule :
+    (w last : ℕ) (rows : List Row) (p : Node)
+    → let others = cond (canR3 w last p rows) Tick (orJump (jumpTo w p rows) (orWake (wakeAt w p rows))) in
+    firstRule w last rows p ≡ cond (canR1 w p rows || canR2 w p rows) Echo others
 unfolding firstRule
-first-rule w last rows p = go (canR1 w p rows) (canR2 w p rows) (cond (canR3 w last p rows) Tick (orJump (jumpTo w p rows) (orWake (wakeAt w p rows))))
+first-rule w last rows p =
+    go (canR1 w p rows) (canR2 w p rows) (cond (canR3 w last p rows) Tick (orJump (jumpTo w p rows) (orWake (wakeAt w p rows))))
   where
     go : (a b : Bool) (rule : Rule) → cond a Echo (cond b Echo rule) ≡ cond (a || b) Echo rule
     go true b rule = refl
     go false b rule = refl
 
--- a jump goes past the next tick
-pub jump-above : (w : ℕ) (p : Node) (rows : List Row) → (jumpTo w p rows ≡ 0) ⊎ (p .tick + 2 < jumpTo w p rows)
-unfolding greatest
-jump-above w p rows = among-above w 2 (p .faults + 1) rows (p .tick + 2) rows
+-- ---- what a rule that comes first tells
 
--- the first rule can fire
-pub can-fire : (w last : ℕ) (rows : List Row) (p : Node) → CanFire last p (firstRule w last rows p)
-can-fire w last rows p =
-    subst (CanFire last p) (sym (first-rule w last rows p))
-    (go (canR1 w p rows || canR2 w p rows) (leb (p .lines - p .faults) (holders w 2 (p .tick) rows)) (ltb (p .tick) last) refl (jumpTo w p rows) (jump-above w p rows) (wakeAt w p rows))
+abbrev pub Told : ℕ → ℕ → List Row → Node → Rule → Type 0
+Told w last rows p Rest = (jumpTo w p rows ≡ 0) × (wakeAt w p rows ≡ 0)
+Told w last rows p Echo = p .sent < p .tick
+Told w last rows p Tick = (p .lines - p .faults ≤ holders w 2 (p .tick) rows) × (p .tick < last)
+Told w last rows p (Jump l) = jumpTo w p rows ≡ suc l
+Told w last rows p (Wake x) = (p .mode ≡ 0) × (greatest w 1 (p .faults + 1) 0 rows ≡ suc x)
+
+pub told : (w last : ℕ) (rows : List Row) (p : Node) → Told w last rows p (firstRule w last rows p)
+unfolding firstRule
+told w last rows p =
+    go (canR1 w p rows) refl (canR2 w p rows) refl (canR3 w last p rows) refl (jumpTo w p rows) refl (wakeAt w p rows) refl
   where
-    wakes : (x : ℕ) → CanFire last p (orWake x)
-    wakes zero = tt
-    wakes (suc x) = tt
+    woke : (x : ℕ) (t : Bool) → eqb (p .mode) 0 ≡ t → cond t (greatest w 1 (p .faults + 1) 0 rows) 0 ≡ suc x → Told w last rows p (Wake x)
+    woke x true e f = (eqb-true (p .mode) 0 e, f)
+    woke x false e f = absurd (omega arith)
 
-    jumps : (l : ℕ) → (l ≡ 0) ⊎ (p .tick + 2 < l) → (x : ℕ) → CanFire last p (orJump l (orWake x))
-    jumps zero h x = wakes x
-    jumps (suc l) (inl e) x = absurd (omega arith)
-    jumps (suc l) (inr h) x = omega arith
+    go :
+        (a : Bool)
+        → canR1 w p rows ≡ a
+        → (b : Bool)
+        → canR2 w p rows ≡ b
+        → (c : Bool)
+        → canR3 w last p rows ≡ c
+        → (l : ℕ)
+        → jumpTo w p rows ≡ l
+        → (x : ℕ)
+        → wakeAt w p rows ≡ x
+        → Told w last rows p (cond a Echo (cond b Echo (cond c Tick (orJump l (orWake x)))))
+    go true e b f c g l h x i =
+        ltb-true (p .sent) (p .tick) (and-eq-true-iff (leb (p .faults + 1) (holders w 1 (p .tick) rows)) _ .0 e .1)
+    go false e true f c g l h x i =
+        ltb-true (p .sent) (p .tick) (and-eq-true-iff (leb (p .faults + 1) (holders w 2 (p .tick) rows)) _ .0 f .1)
+    go false e false f true g l h x i =
+        let both = and-eq-true-iff (leb (p .lines - p .faults) (holders w 2 (p .tick) rows)) (ltb (p .tick) last) .0 g in
+        (leb-true (p .lines - p .faults) (holders w 2 (p .tick) rows) (both .0), ltb-true (p .tick) last (both .1))
+    go false e false f false g (suc l) h x i = h
+    go false e false f false g zero h (suc x) i = woke x (eqb (p .mode) 0) refl i
+    go false e false f false g zero h zero i = (h, i)
 
-    go : (echo held below : Bool) → ltb (p .tick) last ≡ below → (l : ℕ) → (l ≡ 0) ⊎ (p .tick + 2 < l) → (x : ℕ) → CanFire last p (cond echo Echo (cond (held && below) Tick (orJump l (orWake x))))
-    go true held below e l h x = tt
-    go false true true e l h x = ltb-true (p .tick) last e
-    go false true false e l h x = jumps l h x
-    go false false below e l h x = jumps l h x
+-- the first rule can fire: a jump goes past the next tick, so that it is none to 0
+pub can-fire : (w last : ℕ) (rows : List Row) (p : Node) → CanFire last p (firstRule w last rows p)
+can-fire w last rows p = go (firstRule w last rows p) (told w last rows p)
+  where
+    go : (rule : Rule) → Told w last rows p rule → CanFire last p rule
+    go Rest t = tt
+    go Echo t = tt
+    go Tick t = t .1
+    go (Jump l) t = omega (arith, greatest-held w 2 (p .faults + 1) (p .tick + 2) rows l t)
+    go (Wake x) t = tt
+
+-- no rule, or one that fires
+pub rest-or : (rule : Rule) → (rule ≡ Rest) ⊎ (atRest rule ≡ false)
+rest-or Rest = inl refl
+rest-or Echo = inr refl
+rest-or Tick = inr refl
+rest-or (Jump l) = inr refl
+rest-or (Wake x) = inr refl
+
+pub rest-true : (rule : Rule) → atRest rule ≡ true → rule ≡ Rest
+rest-true rule e = elim (rest-or rule) [ inl rest ↦ rest | inr fires ↦ absurd (false≢true (sym fires ∙ e)) ]
 
 -- ---- one firing
+
+-- what holds of one record and of none holds of one that is sent where a test says so
+pub one-or-none : (Q : List Outgoing → Type 0) (t : Bool) (r : Outgoing) → Q (r ∷ []) → Q [] → Q (cond t (r ∷ []) [])
+one-or-none Q true r one none = one
+one-or-none Q false r one none = none
 
 pub said-few : (p : Node) (rule : Rule) → length (said p rule) ≤ 1
 unfolding said
@@ -74,11 +121,8 @@ said-few p Rest = omega arith
 said-few p Echo = omega arith
 said-few p Tick = omega arith
 said-few p (Jump l) = omega arith
-said-few p (Wake x) = go (ltb (p .sent) (woken p x)) (broadcast 2 (woken p x))
-  where
-    go : (t : Bool) (r : Outgoing) → length (cond t (r ∷ []) []) ≤ 1
-    go true r = omega arith
-    go false r = omega arith
+said-few p (Wake x) =
+    one-or-none (λ l. length l ≤ 1) (ltb (p .sent) (woken p x)) (broadcast 2 (woken p x)) (omega arith) (omega arith)
 
 -- two states of one node: who it is stays
 pub record Same (p q : Node) : Type 0 where
@@ -99,57 +143,64 @@ fired-same p (Wake x) = record { lines = refl; faults = refl; own = refl }
 
 -- ---- firing until none can
 
--- a node that stays as it is, and says nothing
-abbrev pub still : Node → Settled
-still p = record { node = p; records = []; firings = 0 }
-
--- what comes of p, whose rule fires, against what comes of the node after it
-pub record Stepped (p : Node) (rule : Rule) (all next : Settled) : Type 0 where
-  pub node : all .node ≡ next .node
-  pub records : all .records ≡ said p rule ++ next .records
-
 module _ (w last : ℕ) (rows : List Row) where
   pub settle-none : (p : Node) → settle w last rows 0 p ≡ still p
   unfolding settle
   settle-none p = refl
 
-  pub settle-suc : (c : ℕ) (p : Node) → settle w last rows (suc c) p ≡ firing p (firstRule w last rows p) (settle w last rows c (fired p (firstRule w last rows p)))
-  unfolding settle
-  settle-suc c p = refl
-
   -- a node at which no rule can fire stays as it is
   pub settle-rest : (c : ℕ) (p : Node) → firstRule w last rows p ≡ Rest → settle w last rows c p ≡ still p
-  unfolding firing
-  settle-rest zero p e = settle-none p
-  settle-rest (suc c) p e = settle-suc c p ∙ ap (λ (rule : Rule). firing p rule (settle w last rows c (fired p (firstRule w last rows p)))) e
+  unfolding settle firing
+  settle-rest zero p e = refl
+  settle-rest (suc c) p e = ap (λ (rule : Rule). firing p rule (settle w last rows c (fired p rule))) e
 
-  -- one step. That the rule may be Rest makes no difference to the node and the records
-  pub settle-step : (c : ℕ) (p : Node) → Stepped p (firstRule w last rows p) (settle w last rows (suc c) p) (settle w last rows c (fired p (firstRule w last rows p)))
-  unfolding firing fired said
-  settle-step c p = rw (settle-suc c p) (go (firstRule w last rows p) refl)
-    where
-      go : (rule : Rule) → firstRule w last rows p ≡ rule → Stepped p rule (firing p rule (settle w last rows c (fired p rule))) (settle w last rows c (fired p rule))
-      go Rest e = record { node = sym (ap (λ (s : Settled). s .node) (settle-rest c p e)); records = sym (ap (λ (s : Settled). s .records) (settle-rest c p e)) }
-      go Echo e = record { node = refl; records = refl }
-      go Tick e = record { node = refl; records = refl }
-      go (Jump l) e = record { node = refl; records = refl }
-      go (Wake x) e = record { node = refl; records = refl }
+  -- a rule that can fire does
+  pub settle-fires :
+      (c : ℕ) (p : Node)
+      → let rule = firstRule w last rows p in
+      atRest rule ≡ false
+      → settle w last rows (suc c) p ≡ follows p rule (settle w last rows c (fired p rule))
+  unfolding settle firing
+  settle-fires c p e = rw (e, firing)
 
   -- the same for a count that is not 0
-  pub settle-down : (c : ℕ) (p : Node) → 0 < c → Stepped p (firstRule w last rows p) (settle w last rows c p) (settle w last rows (c - 1) (fired p (firstRule w last rows p)))
-  settle-down zero p h = absurd (omega arith)
-  settle-down (suc c) p h =
-      subst (λ (k : ℕ). Stepped p (firstRule w last rows p) (settle w last rows (suc c) p) (settle w last rows k (fired p (firstRule w last rows p)))) (less c)
-      (settle-step c p)
+  pub settle-down :
+      (c : ℕ) (p : Node)
+      → 0 < c
+      → let rule = firstRule w last rows p in
+      atRest rule ≡ false
+      → settle w last rows c p ≡ follows p rule (settle w last rows (c - 1) (fired p rule))
+  settle-down zero p h e = absurd (omega arith)
+  settle-down (suc c) p h e = rw (← less c) (settle-fires c p e)
 
-  pub settle-same : (c : ℕ) (p : Node) → Same (settle w last rows c p .node) p
-  settle-same zero p = rw (settle-none p) (record { lines = refl; faults = refl; own = refl })
-  settle-same (suc c) p = rw (settle-step c p .node) (same-trans (settle-same c (fired p (firstRule w last rows p))) (fired-same p (firstRule w last rows p)))
-
-  -- a firing says at most one record
-  pub settle-few : (c : ℕ) (p : Node) → length (settle w last rows c p .records) ≤ c
-  settle-few zero p = rw (settle-none p) (omega arith)
-  settle-few (suc c) p =
-      let rule = firstRule w last rows p in
+  -- the step of the induction: a rule fires, and P holds of what follows
+  abbrev pub Fires : (ℕ → Node → Settled → Type 0) → Type 0
+  Fires P =
+      (c : ℕ) (p : Node)
+      → let rule = firstRule w last rows p in
       let next = settle w last rows c (fired p rule) in
-      rw (settle-step c p .records) (omega (arith, length-append (said p rule) (next .records), said-few p rule, settle-few c (fired p rule)))
+      atRest rule ≡ false
+      → P c (fired p rule) next
+      → P (suc c) p (follows p rule next)
+
+  -- induction over settling: P of the count, the node and what comes of it
+  pub settle-induction :
+      (P : ℕ → Node → Settled → Type 0)
+      -- the count is used up
+      → ((p : Node) → P 0 p (still p))
+      -- no rule can fire
+      → ((c : ℕ) (p : Node) → firstRule w last rows p ≡ Rest → P (suc c) p (still p))
+      → Fires P
+      → (c : ℕ) (p : Node)
+      → P c p (settle w last rows c p)
+  settle-induction P used rests fires zero p = subst (P 0 p) (sym (settle-none p)) (used p)
+  settle-induction P used rests fires (suc c) p =
+      go (rest-or (firstRule w last rows p)) (settle-induction P used rests fires c (fired p (firstRule w last rows p)))
+    where
+      go :
+          let rule = firstRule w last rows p in
+          (rule ≡ Rest) ⊎ (atRest rule ≡ false)
+          → P c (fired p rule) (settle w last rows c (fired p rule))
+          → P (suc c) p (settle w last rows (suc c) p)
+      go (inl e) ih = subst (P (suc c) p) (sym (settle-rest (suc c) p e)) (rests c p e)
+      go (inr e) ih = subst (P (suc c) p) (sym (settle-fires c p e)) (fires c p e ih)

@@ -1,6 +1,8 @@
 -- The laws of `rules` that belong to no single function, and the settled examples.
 pub mod AtRest
+pub mod Clock
 pub mod Firing
 pub mod Modes
 pub mod Records
+pub mod Sent
 pub mod Which

@@ -3,7 +3,7 @@
 -- w is the window, last the last tick; p is the node (n lines, f faults, k its tick, the last echo sent).
 use Prim.Native.Nat.{ℕ, zero, suc, _+_, _-_, _<_, max}
 use mathlib.Core.List.{List, [], _∷_, _++_}
-use mathlib.Core.Bool.{Bool, cond, _&&_}
+use mathlib.Core.Bool.{Bool, true, false, cond, _&&_}
 use lib.Dec.{ltb, leb, eqb}
 use Rattle.evidence.specs.Rows.{Row}
 use Rattle.evidence.specs.Holders.{holders, greatest}
@@ -53,6 +53,14 @@ firstRule w last rows p =
     (cond (canR3 w last p rows) Tick
     (orJump (jumpTo w p rows) (orWake (wakeAt w p rows)))))
 
+-- whether no rule fires
+abbrev pub atRest : Rule → Bool
+atRest Rest = true
+atRest Echo = false
+atRest Tick = false
+atRest (Jump l) = false
+atRest (Wake x) = false
+
 -- ---- effects
 
 -- what a rule that can fire says of the node: below the last tick before a tick, and no jump to 0
@@ -88,17 +96,20 @@ pub record Settled : Type 0 where
   pub records : List Outgoing
   pub firings : ℕ
 
--- what follows a firing, in front of what came of the rest
+-- a node at which nothing fires: it stays, and says nothing
+abbrev pub still : Node → Settled
+still p = record { node = p; records = []; firings = 0 }
+
+-- a rule that has fired: what it says in front of what follows
+abbrev pub follows : Node → Rule → Settled → Settled
+follows p rule next = record { node = next .node; records = said p rule ++ next .records; firings = suc (next .firings) }
+
 unfoldable pub firing : Node → Rule → Settled → Settled
-firing p Rest next = record { node = p; records = []; firings = 0 }
-firing p Echo next = record { node = next .node; records = said p Echo ++ next .records; firings = suc (next .firings) }
-firing p Tick next = record { node = next .node; records = said p Tick ++ next .records; firings = suc (next .firings) }
-firing p (Jump l) next = record { node = next .node; records = said p (Jump l) ++ next .records; firings = suc (next .firings) }
-firing p (Wake x) next = record { node = next .node; records = said p (Wake x) ++ next .records; firings = suc (next .firings) }
+firing p rule next = elim (atRest rule) [ true ↦ still p | false ↦ follows p rule next ]
 
 -- at most c firings. With c = 15 the count never decides, from a sound image: proofs/AtRest.antt and proofs/Stays.antt
 unfoldable pub settle : ℕ → ℕ → List Row → ℕ → Node → Settled
-settle w last rows zero p = record { node = p; records = []; firings = 0 }
+settle w last rows zero p = still p
 settle w last rows (suc c) p =
     let rule = firstRule w last rows p in
     let next = settle w last rows c (fired p rule) in

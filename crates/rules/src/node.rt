@@ -15,7 +15,7 @@ ghost use Rattle.forms.specs.Roster.{count};
 ghost use Rattle.evidence.specs.Rows.{rowsAt, putRows};
 ghost use Rattle.rules.specs.Describe.{window, lastTick, freshNode};
 ghost use Rattle.rules.specs.Record.{putRecords};
-ghost use Rattle.rules.specs.Rules.{canR1, canR2, canR3, jumpTo, wakeAt, orJump, orWake, firstRule, CanFire, woken, fired, said, settle};
+ghost use Rattle.rules.specs.Rules.{canR1, canR2, canR3, jumpTo, wakeAt, orJump, orWake, firstRule, atRest, CanFire, woken, fired, said, settle};
 ghost use Rattle.rules.specs.Delivery.{State, answer, delivered};
 ghost use Rattle.rules.specs.Steps.{RowsIn, SettledAs, DeliveredAs};
 
@@ -26,6 +26,15 @@ pub enum Rule {
     Tick,
     Jump(u32),
     Wake(u32),
+}
+
+impl Rule {
+    // Whether no rule fires.
+    pub fn is_at_rest(self) -> bool
+        ensures { λ r. ⌜ r ≡ atRest self ⌝ }
+    {
+        if let Rule::Rest = self { true } else { false }
+    }
 }
 
 pub struct Node {
@@ -221,7 +230,7 @@ impl Node {
         let mut left: u32 = 15;
         while 0 < left {
             let rule = node.rule(b, i);
-            if let Rule::Rest = rule {
+            if rule.is_at_rest() {
                 return Next { node, records };
             }
             records = node.say(rule, out, records);

@@ -2,7 +2,8 @@
 -- Assumes nothing.
 use borrow.Author.Needs.{needs}
 use mathlib.Core.Path.{_≡_, refl, sym, ap, _∙_, subst}
-use mathlib.Core.List.{List}
+use mathlib.Core.Bool.{false}
+use mathlib.Core.List.{List, _++_}
 use Prim.Native.Nat.{ℕ, _+_, _-_, _*_, _≤_, _<_}
 use native.Mathlib.Nat.{add-zero}
 use native.Mathlib.Omega.{arith}
@@ -11,11 +12,11 @@ use lib.ListN.{length, length-append}
 use Rattle.evidence.specs.Rows.{Row, rowsAt}
 use Rattle.rules.specs.Describe.{window, lastTick}
 use Rattle.rules.specs.Record.{putRecords}
-use Rattle.rules.specs.Rules.{Settled, firstRule, CanFire, fired, said, settle}
+use Rattle.rules.specs.Rules.{Settled, firstRule, atRest, CanFire, fired, said, still, settle}
 use Rattle.rules.specs.Steps.{SettledAs}
 use Rattle.rules.specs.declared.node.Node.{Node}
 use Rattle.rules.specs.declared.node.Rule.{Rule}
-use Rattle.rules.proofs.Firing.{can-fire, said-few, Same, same-trans, fired-same, still, settle-none, settle-rest, settle-down}
+use Rattle.rules.proofs.Firing.{can-fire, rest-true, said-few, Same, same-trans, fired-same, settle-none, settle-rest, settle-down}
 use Rattle.rules.proofs.Records.{length-putRecords, put-records-none, put-records-behind}
 use Rattle.rules.proofs.node.Node.settle.Statement.{statement}
 use Rattle.rules.proofs.node.Node.settle.Tie as tie
@@ -43,16 +44,17 @@ ended {rows} {start} {out₀} {p₀} {out} {p} {records} {left} h e =
     }
 
 -- a firing more
-fires : {rows : List Row} {start : ℕ} {out₀ : List ℕ} {p₀ : Node} {out : List ℕ} {p : Node} {records left : ℕ} → Settling rows start out₀ p₀ out p records left → 0 < left → (rule : Rule) → rule ≡ firstRule window lastTick rows p → Settling rows start out₀ p₀ (putRecords out (12 * records) (said p rule)) (fired p rule) (records + length (said p rule)) (left - 1)
-fires {rows} {start} {out₀} {p₀} {out} {p} {records} {left} h l rule e =
+fires : {rows : List Row} {start : ℕ} {out₀ : List ℕ} {p₀ : Node} {out : List ℕ} {p : Node} {records left : ℕ} → Settling rows start out₀ p₀ out p records left → 0 < left → (rule : Rule) → rule ≡ firstRule window lastTick rows p → atRest rule ≡ false → Settling rows start out₀ p₀ (putRecords out (12 * records) (said p rule)) (fired p rule) (records + length (said p rule)) (left - 1)
+fires {rows} {start} {out₀} {p₀} {out} {p} {records} {left} h l rule e goes =
     let first = firstRule window lastTick rows p in
     let next = from rows (left - 1) (fired p first) in
-    let down = settle-down window lastTick rows left p l in
-    subst (λ (r : Rule). Settling rows start out₀ p₀ (putRecords out (12 * records) (said p r)) (fired p r) (records + length (said p r)) (left - 1)) (sym e)
+    let down = settle-down window lastTick rows left p l (rw e at goes) in
+    let told : from rows left p .records ≡ said p first ++ next .records = ap (λ (s : Settled). s .records) down in
+    rw e
     (record {
-      node = sym (down .node) ∙ h .node;
-      count = omega (arith, ap length (down .records), length-append (said p first) (next .records));
-      bytes = sym (put-records-behind out records (records + length (said p first)) (said p first) (next .records) refl) ∙ ap (putRecords out (12 * records)) (sym (down .records)) ∙ h .bytes;
+      node = sym (ap (λ (s : Settled). s .node) down) ∙ h .node;
+      count = omega (arith, ap length told, length-append (said p first) (next .records));
+      bytes = sym (put-records-behind out records (records + length (said p first)) (said p first) (next .records) refl) ∙ ap (putRecords out (12 * records)) (sym told) ∙ h .bytes;
       few = omega (arith, said-few p first);
       same = same-trans (fired-same p first) (h .same);
       room = length-putRecords out (12 * records) (said p first) ∙ h .room;
@@ -83,8 +85,8 @@ can c =
     let p = c .before .before .loop .node in
     subst (CanFire lastTick p) (sym (first c)) (can-fire window lastTick (rowsAt 8 (a .self .lines) (now (a .b)) (a .i)) p)
 
-enum-told : tie.Need-enum-told Inv-loop μ-loop
-enum-told c = search needs
+is-at-rest-requires : tie.Need-is-at-rest-requires Inv-loop μ-loop
+is-at-rest-requires c κs = search needs
 
 same-length : tie.Need-same-length Inv-loop μ-loop
 same-length c = c .before .before .before .before .loop .inv .room
@@ -93,14 +95,15 @@ returns : tie.Need-returns Inv-loop μ-loop
 returns c =
     let a = c .before .before .before .before .before .before .before .args in
     let l = c .before .before .before .before .loop in
-    (ended (l .inv) (settle-rest window lastTick (rowsAt 8 (a .self .lines) (now (a .b)) (a .i)) (l .left) (l .node) (sym (first (c .before .before)) ∙ c .enum-told .given .1)), omega arith)
+    let rests = rest-true (c .before .before .rule .result) (sym (c .before .is-at-rest .ensures) ∙ c .if1 .taken) in
+    (ended (l .inv) (settle-rest window lastTick (rowsAt 8 (a .self .lines) (now (a .b)) (a .i)) (l .left) (l .node) (sym (first (c .before .before)) ∙ rests)), omega arith)
 
 -- by search, which meets it for any rule: that the rule said is the first one shows in `counted`
 say-requires : tie.Need-say-requires Inv-loop μ-loop
-say-requires c κs = search (needs, can (c .before .before))
+say-requires c κs = search (needs, can (c .before .before .before))
 
 fire-requires : tie.Need-fire-requires Inv-loop μ-loop
-fire-requires c κs = can (c .before .before .before .before .before)
+fire-requires c κs = can (c .before .before .before .before .before .before)
 
 sub-left : tie.Need-sub-left Inv-loop μ-loop
 sub-left c = search needs
@@ -109,12 +112,16 @@ loop-less : tie.Need-loop-less Inv-loop μ-loop
 loop-less c = search needs
 
 -- the count goes up by what the rule says
-counted : (c : tie.After-say Inv-loop μ-loop) → let l = c .before .before .before .before .before .loop in c .say .result ≡ l .records + length (said (l .node) (c .before .before .before .rule .result))
+counted : (c : tie.After-say Inv-loop μ-loop) → let l = c .before .before .before .before .before .before .loop in c .say .result ≡ l .records + length (said (l .node) (c .before .before .before .before .rule .result))
 counted c = omega arith
 
 loop-again : tie.Need-loop-again Inv-loop μ-loop
 loop-again c =
-    rw (c .fire .ensures, counted (c .before .before .before), c .before .before .before .say .ensures .2) (fires (c .before .before .before .before .before .before .before .before .loop .inv) (c .before .before .before .before .before .before .before .loop-test .taken) (c .before .before .before .before .before .before .rule .result) (first (c .before .before .before .before .before .before)))
+    let says = c .before .before .before in
+    let rests = says .before .before .before in
+    let rules = rests .before in
+    rw (c .fire .ensures, counted says, says .say .ensures .2)
+    (fires (rules .before .before .loop .inv) (rules .before .loop-test .taken) (rules .rule .result) (first rules) (sym (rests .is-at-rest .ensures) ∙ says .before .before .if1 .left))
 
 same-length-2 : tie.Need-same-length-2 Inv-loop μ-loop
 same-length-2 c = c .before .loop .inv .room
@@ -135,7 +142,7 @@ settle-spec =
     μ-loop
     loop-holds
     rule-requires
-    enum-told
+    is-at-rest-requires
     same-length
     returns
     say-requires

@@ -7,10 +7,12 @@ use mathlib.Core.List.{List, _++_, List·Permᴰ}
 use Prim.Native.Nat.{ℕ, suc, _+_, _-_}
 use native.Mathlib.Omega.{arith}
 use lib.Dec.{ltb, leb, eqb}
+use Rattle.fields.specs.Kind.{INIT, ECHO}
 use Rattle.sets.specs.Ticks.{holds}
 use Rattle.evidence.specs.Rows.{Row, setOf}
 use Rattle.evidence.proofs.Orders.{joined-order, holders-order, greatest-order, credit-order}
-use Rattle.rules.specs.Delivery.{State, answer, settled, delivered}
+use Rattle.rules.specs.Delivery.{answer, settled, delivered}
+use Rattle.rules.specs.Describe.{mostFirings}
 use Rattle.rules.specs.Rules.{orJump, orWake, firstRule, Settled, follows, settle}
 use Rattle.rules.proofs.Firing.{settle-none, settle-rest, settle-fires, settle-induction}
 use Rattle.node.specs.Runs.{under}
@@ -22,11 +24,11 @@ module _ (w last : ℕ) {rows others : List Row} (order : List·Permᴰ rows oth
   unfolding firstRule
   rule-order p =
       λ d.
-      cond (leb (p .faults + 1) (holders-order w 1 (p .tick) order d) && ltb (p .sent) (p .tick)) Echo
-      (cond (leb (p .faults + 1) (holders-order w 2 (p .tick) order d) && ltb (p .sent) (p .tick)) Echo
-      (cond (leb (p .lines - p .faults) (holders-order w 2 (p .tick) order d) && ltb (p .tick) last) Tick
-      (orJump (greatest-order w 2 (p .faults + 1) (p .tick + 2) order d)
-      (orWake (cond (eqb (p .mode) 0) (greatest-order w 1 (p .faults + 1) 0 order d) 0)))))
+      cond (leb (p .faults + 1) (holders-order w INIT (p .tick) order d) && ltb (p .sent) (p .tick)) Echo
+      (cond (leb (p .faults + 1) (holders-order w ECHO (p .tick) order d) && ltb (p .sent) (p .tick)) Echo
+      (cond (leb (p .lines - p .faults) (holders-order w ECHO (p .tick) order d) && ltb (p .tick) last) Tick
+      (orJump (greatest-order w ECHO (p .faults + 1) (p .tick + 2) order d)
+      (orWake (cond (eqb (p .mode) 0) (greatest-order w INIT (p .faults + 1) 0 order d) 0)))))
 
   pub settle-order : (c : ℕ) (p : Node) → settle w last rows c p ≡ settle w last others c p
   settle-order =
@@ -45,7 +47,7 @@ pub delivery-order :
 unfolding delivered settled
 delivery-order w last p port kind j order =
     let after = credit-order w port kind j order in
-    let s = settle-order w last after 15 p in
+    let s = settle-order w last after mostFirings p in
     (ap (λ (x : Settled). x .node) s, ap (λ (x : Settled). answer p port kind j ++ x .records) s, after)
 
 -- ---- evidence under a serial

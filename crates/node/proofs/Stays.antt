@@ -1,5 +1,5 @@
 -- A sound node stays sound over a delivery: its roster stays, mode is 0 or 1, last echo ≤ k ≤ last tick, its sets stay proper,
--- and no rule can fire. It has come to rest within 13 firings, so at most 14 records were sent, and 16 places never run out.
+-- and no rule can fire. It has come to rest within 13 firings, so at most 14 records were sent, and the room never runs out.
 -- Assumes nothing.
 use mathlib.Core.Path.{_≡_, ap, ap₂, _∙_}
 use mathlib.Core.List.{List, map}
@@ -83,7 +83,7 @@ module _ (w last : ℕ) (s : State) (port kind j : ℕ) (wide : 0 < w) where
               length-map (s .rows) (λ (row : Row). row .serial),
             )
 
-    -- 192 bytes never run out: at most 14 records of the 16
+    -- the room never runs out: a record for each firing, and the answer
     pub records-few : length (delivered w last s port kind j .records) ≤ 14
     records-few = omega (arith, rest-after .1, delivered-few w last s port kind j)
 

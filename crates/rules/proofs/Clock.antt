@@ -5,10 +5,12 @@ use mathlib.Core.Path.{_≡_}
 use mathlib.Core.List.{List}
 use Prim.Native.Nat.{ℕ, _+_, _≤_, _<_}
 use native.Mathlib.Omega.{arith}
+use Rattle.fields.specs.Kind.{INIT, ECHO}
 use Rattle.evidence.specs.Rows.{Row, credit}
 use Rattle.evidence.proofs.Greatest.{greatest-held}
 use Rattle.evidence.proofs.Growth.{AllKept, credit-kept, held-bounded}
 use Rattle.rules.specs.Delivery.{State, settled, delivered}
+use Rattle.rules.specs.Describe.{mostFirings}
 use Rattle.rules.specs.Rules.{firstRule, fired, settle}
 use Rattle.rules.specs.declared.node.Node.{Node}
 use Rattle.rules.specs.declared.node.Rule.{Rule}
@@ -39,11 +41,11 @@ module _ (w last : ℕ) (rows : List Row) (sets : AllKept w last rows) where
   fire-ordered p Echo h t = omega arith
   fire-ordered p Tick h t = omega arith
   fire-ordered p (Jump l) h t =
-      let held = greatest-held w 2 (p .faults + 1) (p .tick + 2) rows l t in
-      omega (arith, held-bounded w last 2 l rows sets (held .2))
+      let held = greatest-held w ECHO (p .faults + 1) (p .tick + 2) rows l t in
+      omega (arith, held-bounded w last ECHO l rows sets (held .2))
   fire-ordered p (Wake x) h t =
-      let held = greatest-held w 1 (p .faults + 1) 0 rows x (t .1) in
-      omega (arith, held-bounded w last 1 x rows sets (held .2))
+      let held = greatest-held w INIT (p .faults + 1) 0 rows x (t .1) in
+      omega (arith, held-bounded w last INIT x rows sets (held .2))
 
   pub settle-ordered : (c : ℕ) (p : Node) → InOrder last p → Ordered last p (settle w last rows c p .node)
   settle-ordered =
@@ -58,4 +60,4 @@ module _ (w last : ℕ) (s : State) (port kind j : ℕ) (wide : 0 < w) (sets : A
   pub delivered-ordered : InOrder last (s .node) → Ordered last (s .node) (delivered w last s port kind j .state .node)
   unfolding delivered settled
   delivered-ordered =
-      settle-ordered w last (credit w port kind j (s .rows)) (credit-kept w last port kind j (s .rows) wide late sets) 15 (s .node)
+      settle-ordered w last (credit w port kind j (s .rows)) (credit-kept w last port kind j (s .rows) wide late sets) mostFirings (s .node)

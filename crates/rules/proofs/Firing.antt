@@ -10,11 +10,14 @@ use native.Mathlib.Omega.{arith}
 use borrow.Author.Tests.{leb-true, ltb-true, eqb-true}
 use lib.Dec.{ltb, leb, eqb}
 use lib.ListN.{length}
+use Rattle.fields.specs.Kind.{INIT, ECHO}
 use Rattle.evidence.specs.Rows.{Row}
 use Rattle.evidence.specs.Holders.{holders, greatest}
 use Rattle.evidence.proofs.Greatest.{greatest-held}
 use Rattle.rules.specs.Record.{Outgoing, broadcast}
-use Rattle.rules.specs.Rules.{canR1, canR2, canR3, jumpTo, wakeAt, orJump, orWake, firstRule, atRest, CanFire, woken, fired, said, Settled, still, follows, firing, settle}
+use Rattle.rules.specs.Rules.{canR1, canR2, canR3, jumpTo, wakeAt, orJump, orWake, firstRule, atRest, woken}
+use Rattle.rules.specs.Rules.{fired, said, Settled, still, follows, firing, settle}
+use Rattle.rules.specs.Steps.{CanFire}
 use Rattle.rules.specs.declared.node.Node.{Node}
 use Rattle.rules.specs.declared.node.Rule.{Rule}
 use Rattle.rules.specs.declared.node.Rule.the-variants.{Rest, Echo, Tick, Jump, Wake}
@@ -50,16 +53,20 @@ first-rule w last rows p =
 abbrev pub Told : ℕ → ℕ → List Row → Node → Rule → Type 0
 Told w last rows p Rest = (jumpTo w p rows ≡ 0) × (wakeAt w p rows ≡ 0)
 Told w last rows p Echo = p .sent < p .tick
-Told w last rows p Tick = (p .lines - p .faults ≤ holders w 2 (p .tick) rows) × (p .tick < last)
+Told w last rows p Tick = (p .lines - p .faults ≤ holders w ECHO (p .tick) rows) × (p .tick < last)
 Told w last rows p (Jump l) = jumpTo w p rows ≡ suc l
-Told w last rows p (Wake x) = (p .mode ≡ 0) × (greatest w 1 (p .faults + 1) 0 rows ≡ suc x)
+Told w last rows p (Wake x) = (p .mode ≡ 0) × (greatest w INIT (p .faults + 1) 0 rows ≡ suc x)
 
 pub told : (w last : ℕ) (rows : List Row) (p : Node) → Told w last rows p (firstRule w last rows p)
 unfolding firstRule
 told w last rows p =
     go (canR1 w p rows) refl (canR2 w p rows) refl (canR3 w last p rows) refl (jumpTo w p rows) refl (wakeAt w p rows) refl
   where
-    woke : (x : ℕ) (t : Bool) → eqb (p .mode) 0 ≡ t → cond t (greatest w 1 (p .faults + 1) 0 rows) 0 ≡ suc x → Told w last rows p (Wake x)
+    woke :
+        (x : ℕ) (t : Bool)
+        → eqb (p .mode) 0 ≡ t
+        → cond t (greatest w INIT (p .faults + 1) 0 rows) 0 ≡ suc x
+        → Told w last rows p (Wake x)
     woke x true e f = (eqb-true (p .mode) 0 e, f)
     woke x false e f = absurd (omega arith)
 
@@ -76,12 +83,12 @@ told w last rows p =
         → wakeAt w p rows ≡ x
         → Told w last rows p (cond a Echo (cond b Echo (cond c Tick (orJump l (orWake x)))))
     go true e b f c g l h x i =
-        ltb-true (p .sent) (p .tick) (and-eq-true-iff (leb (p .faults + 1) (holders w 1 (p .tick) rows)) _ .0 e .1)
+        ltb-true (p .sent) (p .tick) (and-eq-true-iff (leb (p .faults + 1) (holders w INIT (p .tick) rows)) _ .0 e .1)
     go false e true f c g l h x i =
-        ltb-true (p .sent) (p .tick) (and-eq-true-iff (leb (p .faults + 1) (holders w 2 (p .tick) rows)) _ .0 f .1)
+        ltb-true (p .sent) (p .tick) (and-eq-true-iff (leb (p .faults + 1) (holders w ECHO (p .tick) rows)) _ .0 f .1)
     go false e false f true g l h x i =
-        let both = and-eq-true-iff (leb (p .lines - p .faults) (holders w 2 (p .tick) rows)) (ltb (p .tick) last) .0 g in
-        (leb-true (p .lines - p .faults) (holders w 2 (p .tick) rows) (both .0), ltb-true (p .tick) last (both .1))
+        let both = and-eq-true-iff (leb (p .lines - p .faults) (holders w ECHO (p .tick) rows)) (ltb (p .tick) last) .0 g in
+        (leb-true (p .lines - p .faults) (holders w ECHO (p .tick) rows) (both .0), ltb-true (p .tick) last (both .1))
     go false e false f false g (suc l) h x i = h
     go false e false f false g zero h (suc x) i = woke x (eqb (p .mode) 0) refl i
     go false e false f false g zero h zero i = (h, i)
@@ -94,7 +101,7 @@ can-fire w last rows p = go (firstRule w last rows p) (told w last rows p)
     go Rest t = tt
     go Echo t = tt
     go Tick t = t .1
-    go (Jump l) t = omega (arith, greatest-held w 2 (p .faults + 1) (p .tick + 2) rows l t)
+    go (Jump l) t = omega (arith, greatest-held w ECHO (p .faults + 1) (p .tick + 2) rows l t)
     go (Wake x) t = tt
 
 -- no rule, or one that fires
@@ -122,7 +129,7 @@ said-few p Echo = omega arith
 said-few p Tick = omega arith
 said-few p (Jump l) = omega arith
 said-few p (Wake x) =
-    one-or-none (λ l. length l ≤ 1) (ltb (p .sent) (woken p x)) (broadcast 2 (woken p x)) (omega arith) (omega arith)
+    one-or-none (λ l. length l ≤ 1) (ltb (p .sent) (woken p x)) (broadcast ECHO (woken p x)) (omega arith) (omega arith)
 
 -- two states of one node: who it is stays
 pub record Same (p q : Node) : Type 0 where
@@ -135,11 +142,11 @@ same-trans h k = record { lines = h .lines ∙ k .lines; faults = h .faults ∙ 
 
 pub fired-same : (p : Node) (rule : Rule) → Same (fired p rule) p
 unfolding fired
-fired-same p Rest = record { lines = refl; faults = refl; own = refl }
-fired-same p Echo = record { lines = refl; faults = refl; own = refl }
-fired-same p Tick = record { lines = refl; faults = refl; own = refl }
-fired-same p (Jump l) = record { lines = refl; faults = refl; own = refl }
-fired-same p (Wake x) = record { lines = refl; faults = refl; own = refl }
+fired-same p Rest = omega arith
+fired-same p Echo = omega arith
+fired-same p Tick = omega arith
+fired-same p (Jump l) = omega arith
+fired-same p (Wake x) = omega arith
 
 -- ---- firing until none can
 

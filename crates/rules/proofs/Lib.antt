@@ -1,8 +1,9 @@
--- The laws of `rules` that belong to no single function, and the settled examples.
+-- The laws of `rules` that belong to no single function.
 pub mod AtRest
 pub mod Clock
 pub mod Firing
 pub mod Modes
 pub mod Records
 pub mod Sent
+pub mod Single
 pub mod Which

@@ -1,10 +1,11 @@
--- What every firing of a rule keeps, settling and a delivery keep: the mode stays 0 or 1, and who it is stays.
+-- What every firing of a rule keeps, settling and a delivery keep; so the mode stays 0 or 1.
 -- Assumes nothing.
 use mathlib.Core.List.{List}
 use Prim.Native.Nat.{ℕ, _≤_}
 use native.Mathlib.Omega.{arith}
 use Rattle.evidence.specs.Rows.{Row, credit}
 use Rattle.rules.specs.Delivery.{State, settled, delivered}
+use Rattle.rules.specs.Describe.{mostFirings}
 use Rattle.rules.specs.Rules.{firstRule, fired, settle}
 use Rattle.rules.specs.declared.node.Node.{Node}
 use Rattle.rules.specs.declared.node.Rule.{Rule}
@@ -16,14 +17,14 @@ abbrev pub Keeps : (Node → Type 0) → Type 0
 Keeps P = (p : Node) (rule : Rule) → P p → P (fired p rule)
 
 module _ (P : Node → Type 0) (keeps : Keeps P) (w last : ℕ) where
-  pub settle-keeps : (rows : List Row) (c : ℕ) (p : Node) → P p → P (settle w last rows c p .node)
+  settle-keeps : (rows : List Row) (c : ℕ) (p : Node) → P p → P (settle w last rows c p .node)
   settle-keeps rows =
       settle-induction w last rows (λ c p s. P p → P (s .node)) (λ p h. h) (λ c p e h. h)
       (λ c p e ih h. ih (keeps p (firstRule w last rows p) h))
 
   pub delivered-keeps : (s : State) (port kind tick : ℕ) → P (s .node) → P (delivered w last s port kind tick .state .node)
   unfolding settled delivered
-  delivered-keeps s port kind tick h = settle-keeps (credit w port kind tick (s .rows)) 15 (s .node) h
+  delivered-keeps s port kind tick h = settle-keeps (credit w port kind tick (s .rows)) mostFirings (s .node) h
 
 -- ---- the mode
 

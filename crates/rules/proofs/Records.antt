@@ -1,49 +1,73 @@
--- Laws of records in bytes: they keep the length, and records behind records are one list of records.
+-- Laws of records in bytes: they keep the length, and records behind records are one list of records; so what joints send adds up.
 -- Assumes nothing.
 use mathlib.Core.Path.{_≡_, refl, sym, ap, _∙_}
 use mathlib.Core.List.{List, [], _∷_, _++_}
 use Prim.Native.Nat.{ℕ, suc, _+_, _*_}
 use native.Mathlib.Nat.{add-zero}
 use native.Mathlib.Omega.{arith}
-use lib.ListN.{length}
-use Rattle.fields.specs.Field.{putField}
+use lib.ListN.{length, length-append}
 use Rattle.forms.specs.Frame.{putFrame}
 use Rattle.fields.proofs.Fields.{length-put}
-use Rattle.rules.specs.Record.{Outgoing, putRecord, putRecords}
+use Rattle.rules.specs.Record.{Outgoing, recordSize, putRecord, putRecords}
+use Rattle.rules.specs.Steps.{SentAs}
 
-pub length-putRecord : (out : List ℕ) (i : ℕ) (r : Outgoing) → length (putRecord out i r) ≡ length out
+length-putRecord : (out : List ℕ) (i : ℕ) (r : Outgoing) → length (putRecord out i r) ≡ length out
 unfolding putRecord putFrame
-length-putRecord out i r =
-    length-put 4 (putField 3 (putField 1 (putField 4 out i (r .dest)) (i + 4) (r .kind)) (i + 4 + 1) 0) (i + 4 + 4) (r .tick)
-    ∙ length-put 3 (putField 1 (putField 4 out i (r .dest)) (i + 4) (r .kind)) (i + 4 + 1) 0 ∙ length-put 1 (putField 4 out i (r .dest)) (i + 4) (r .kind)
-    ∙ length-put 4 out i (r .dest)
+length-putRecord out i r = simp length-put
 
 pub length-putRecords : (out : List ℕ) (i : ℕ) (rs : List Outgoing) → length (putRecords out i rs) ≡ length out
 unfolding putRecords
 length-putRecords out i [] = refl
-length-putRecords out i (r ∷ rs) = length-putRecords (putRecord out i r) (i + 12) rs ∙ length-putRecord out i r
+length-putRecords out i (r ∷ rs) = length-putRecords (putRecord out i r) (i + recordSize) rs ∙ length-putRecord out i r
 
 pub put-records-none : (out : List ℕ) (i : ℕ) → putRecords out i [] ≡ out
 unfolding putRecords
 put-records-none out i = refl
 
-pub put-records-one : (out : List ℕ) (i : ℕ) (r : Outgoing) → putRecords out i (r ∷ []) ≡ putRecord out i r
-unfolding putRecords
-put-records-one out i r = refl
-
-pub put-records-append : (out : List ℕ) (i : ℕ) (xs ys : List Outgoing) → putRecords out i (xs ++ ys) ≡ putRecords (putRecords out i xs) (i + 12 * length xs) ys
+put-records-append :
+    (out : List ℕ) (i : ℕ) (xs ys : List Outgoing)
+    → putRecords out i (xs ++ ys) ≡ putRecords (putRecords out i xs) (i + recordSize * length xs) ys
 unfolding putRecords
 put-records-append out i [] ys = ap (λ (j : ℕ). putRecords out j ys) (sym (add-zero i))
 put-records-append out i (x ∷ xs) ys =
-    put-records-append (putRecord out i x) (i + 12) xs ys
-    ∙ ap (λ (j : ℕ). putRecords (putRecords (putRecord out i x) (i + 12) xs) j ys) (behind (length xs))
+    put-records-append (putRecord out i x) (i + recordSize) xs ys
+    ∙ ap (λ (j : ℕ). putRecords (putRecords (putRecord out i x) (i + recordSize) xs) j ys) (behind (length xs))
   where
-    behind : (n : ℕ) → i + 12 + 12 * n ≡ i + 12 * suc n
+    behind : (n : ℕ) → i + recordSize + recordSize * n ≡ i + recordSize * suc n
     behind n = omega arith
 
 -- n records stand from place 0 on, and with xs they are m
-pub put-records-behind : (out : List ℕ) (n m : ℕ) (xs ys : List Outgoing) → m ≡ n + length xs → putRecords out (12 * n) (xs ++ ys) ≡ putRecords (putRecords out (12 * n) xs) (12 * m) ys
-put-records-behind out n m xs ys e = put-records-append out (12 * n) xs ys ∙ ap (λ (j : ℕ). putRecords (putRecords out (12 * n) xs) j ys) (place (length xs) e)
-  where
-    place : (k : ℕ) → m ≡ n + k → 12 * n + 12 * k ≡ 12 * m
-    place k h = omega arith
+pub put-records-behind :
+    (out : List ℕ) (n m : ℕ) (xs ys : List Outgoing)
+    → m ≡ n + length xs
+    → putRecords out (recordSize * n) (xs ++ ys) ≡ putRecords (putRecords out (recordSize * n) xs) (recordSize * m) ys
+put-records-behind out n m xs ys e =
+    let place : recordSize * n + recordSize * length xs ≡ recordSize * m = omega arith in
+    put-records-append out (recordSize * n) xs ys ∙ ap (λ (j : ℕ). putRecords (putRecords out (recordSize * n) xs) j ys) place
+
+-- ---- what a joint sends: nothing, one record, some and then others
+
+pub sent-none : {out : List ℕ} {n : ℕ} → SentAs 1 [] n out n out
+unfolding putRecords
+sent-none = record { records = omega arith; few = omega arith; bytes = refl }
+
+pub sent-one :
+    {out after : List ℕ} {n : ℕ} {r : Outgoing}
+    → after ≡ putRecord out (recordSize * n) r
+    → SentAs 1 (r ∷ []) n out (n + 1) after
+unfolding putRecords
+sent-one e = record { records = refl; few = omega arith; bytes = e }
+
+pub sent-then :
+    {most more start n m : ℕ} {xs ys : List Outgoing} {out mid after : List ℕ}
+    → SentAs most xs start out n mid
+    → SentAs more ys n mid m after
+    → SentAs (most + more) (xs ++ ys) start out m after
+sent-then {start = start} {n = n} {xs = xs} {ys = ys} {out = out} h g =
+    record {
+      records = omega (arith, length-append xs ys);
+      few = omega arith;
+      bytes =
+          g .bytes ∙ ap (λ (l : List ℕ). putRecords l (recordSize * n) ys) (h .bytes)
+          ∙ sym (put-records-behind out start n xs ys (h .records));
+    }

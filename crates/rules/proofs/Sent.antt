@@ -6,9 +6,11 @@ use Prim.Native.Nat.{ℕ, _+_, _≤_, _<_}
 use native.Mathlib.Omega.{arith}
 use lib.ListN.{length, length-append}
 use lib.Dec.{ltb, eqb}
+use Rattle.fields.specs.Kind.{ECHO}
 use Rattle.evidence.specs.Rows.{Row, credit}
 use Rattle.evidence.proofs.Growth.{AllKept, credit-kept}
 use Rattle.rules.specs.Delivery.{State, answer, settled, delivered}
+use Rattle.rules.specs.Describe.{mostFirings}
 use Rattle.rules.specs.Record.{Outgoing, broadcast}
 use Rattle.rules.specs.Rules.{firstRule, woken, fired, said, settle}
 use Rattle.rules.specs.declared.node.Node.{Node}
@@ -20,12 +22,12 @@ use Rattle.rules.proofs.Firing.{told, one-or-none, said-few, settle-ind
 -- the answer is the last echo sent, or none
 answered :
     (Q : List Outgoing → Type 0) (p : Node) (port kind j : ℕ)
-    → Q (record { dest = port; kind = 2; tick = p .sent } ∷ [])
+    → Q (record { dest = port; kind = ECHO; tick = p .sent } ∷ [])
     → Q []
     → Q (answer p port kind j)
 unfolding answer
 answered Q p port kind j =
-    one-or-none Q (eqb kind 2 && (eqb j 0 && not (eqb port (p .own)))) (record { dest = port; kind = 2; tick = p .sent })
+    one-or-none Q (eqb kind ECHO && (eqb j 0 && not (eqb port (p .own)))) (record { dest = port; kind = ECHO; tick = p .sent })
 
 -- ---- how many
 
@@ -45,9 +47,9 @@ unfolding delivered settled
 delivered-few w last s port kind j =
     omega (
       arith,
-      length-append (answer (s .node) port kind j) (settle w last (credit w port kind j (s .rows)) 15 (s .node) .records),
+      length-append (answer (s .node) port kind j) (settle w last (credit w port kind j (s .rows)) mostFirings (s .node) .records),
       answered (λ l. length l ≤ 1) (s .node) port kind j (omega arith) (omega arith),
-      settle-few w last (credit w port kind j (s .rows)) 15 (s .node),
+      settle-few w last (credit w port kind j (s .rows)) mostFirings (s .node),
     )
 
 -- ---- no record carries a tick above k after the delivery
@@ -71,7 +73,7 @@ said-below p Echo = (omega arith, tt)
 said-below p Tick = (omega arith, tt)
 said-below p (Jump l) = (omega arith, tt)
 said-below p (Wake x) =
-    one-or-none (Below (woken p x)) (ltb (p .sent) (woken p x)) (broadcast 2 (woken p x)) (omega arith, tt) tt
+    one-or-none (Below (woken p x)) (ltb (p .sent) (woken p x)) (broadcast ECHO (woken p x)) (omega arith, tt) tt
 
 module _ (w last : ℕ) (rows : List Row) (sets : AllKept w last rows) where
   settle-below : (c : ℕ) (p : Node) → InOrder last p → Below (settle w last rows c p .node .tick) (settle w last rows c p .records)
@@ -82,9 +84,9 @@ module _ (w last : ℕ) (rows : List Row) (sets : AllKept w last rows) where
       let next = settle w last rows c (fired p rule) in
       let one = fire-ordered w last rows sets p rule h (told w last rows p) in
       let order : InOrder last (fired p rule) = omega arith in
+      let rest = settle-ordered w last rows sets c (fired p rule) order in
       below-append (next .node .tick) (said p rule) (next .records)
-      (below-more (fired p rule .tick) (next .node .tick) (said p rule) (settle-ordered w last rows sets c (fired p rule) order .later) (said-below p rule))
-      (ih order))
+      (below-more (fired p rule .tick) (next .node .tick) (said p rule) (rest .later) (said-below p rule)) (ih order))
 
 module _ (w last : ℕ) (s : State) (port kind j : ℕ) (wide : 0 < w) (sets : AllKept w last (s .rows)) (late : j ≤ last) where
   pub delivered-below : InOrder last (s .node) → let d = delivered w last s port kind j in Below (d .state .node .tick) (d .records)
@@ -92,8 +94,8 @@ module _ (w last : ℕ) (s : State) (port kind j : ℕ) (wide : 0 < w) (sets : A
   delivered-below order =
       let rows = credit w port kind j (s .rows) in
       let kept = credit-kept w last port kind j (s .rows) wide late sets in
-      let next = settle w last rows 15 (s .node) in
-      let after = settle-ordered w last rows kept 15 (s .node) order in
+      let next = settle w last rows mostFirings (s .node) in
+      let after = settle-ordered w last rows kept mostFirings (s .node) order in
       below-append (next .node .tick) (answer (s .node) port kind j) (next .records)
       (answered (Below (next .node .tick)) (s .node) port kind j (omega arith, tt) tt)
-      (settle-below w last rows kept 15 (s .node) order)
+      (settle-below w last rows kept mostFirings (s .node) order)

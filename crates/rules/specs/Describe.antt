@@ -2,6 +2,7 @@
 -- They stand here and on `Node` in the code, and nowhere else; every other definition takes them as parameters.
 use Prim.Native.Nat.{ℕ, _+_, _*_}
 use mathlib.Core.List.{List, [], _∷_, map}
+use Rattle.fields.specs.Kind.{ECHO}
 use Rattle.sets.specs.Ticks.{empty}
 use Rattle.evidence.specs.Rows.{Row}
 use Rattle.rules.specs.Record.{Outgoing, broadcast, recordSize}
@@ -31,4 +32,4 @@ freshRows serials = map (λ serial. record { serial = serial; echo = empty; init
 
 -- one record: echo 0 to all
 abbrev pub bootRecords : List Outgoing
-bootRecords = broadcast 2 0 ∷ []
+bootRecords = broadcast ECHO 0 ∷ []

@@ -1,4 +1,4 @@
--- The outgoing record (01, "Layouts"), 12 bytes: destination serial, 0 for all, then a frame.
+-- The outgoing record (01, "Layouts"): destination serial, 0 for all, then a frame.
 use Prim.Native.Nat.{ℕ, _+_}
 use mathlib.Core.List.{List, [], _∷_}
 use Rattle.fields.specs.Field.{putField}
@@ -13,7 +13,7 @@ pub record Outgoing : Type 0 where
 abbrev pub recordSize : ℕ
 recordSize = 12
 
--- init is kind 1, echo kind 2
+-- to all
 abbrev pub broadcast : ℕ → ℕ → Outgoing
 broadcast kind tick = record { dest = 0; kind = kind; tick = tick }
 
@@ -23,4 +23,4 @@ putRecord out i r = putFrame (putField 4 out i (r .dest)) (i + 4) (r .kind) (r .
 -- records one after the other from place i on; what stands behind them stays
 unfoldable pub putRecords : List ℕ → ℕ → List Outgoing → List ℕ
 putRecords out i [] = out
-putRecords out i (r ∷ rs) = putRecords (putRecord out i r) (i + 12) rs
+putRecords out i (r ∷ rs) = putRecords (putRecord out i r) (i + recordSize) rs

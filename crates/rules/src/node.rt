@@ -1,23 +1,23 @@
 // A node by value: its place on the roster and its clock. The evidence lies in lent bytes, n rows from place i of a buffer on, and is
 // looked at where it lies, so a node costs six words of stack however many rows there are. The methods but `new` are joints
-// between layers: the caller has checked that the rows lie inside the buffer and that there is room for 16 records.
+// between layers: the caller has checked that the rows lie inside the buffer and that there is room for all records.
+use crate::record::RECORD;
 use crate::record::put_record;
 use evidence::rows::count_holders;
 use evidence::rows::credit_row;
+use fields::kind::ECHO;
+use fields::kind::INIT;
 use forms::frame::Frame;
 use search::greatest::find_greatest;
 ghost use mathlib.Core.Path.{_≡_};
-ghost use mathlib.Core.Bool.{_||_};
-ghost use Prim.Native.Nat.{_+_, _*_, _≤_, _<_, max};
+ghost use Prim.Native.Nat.{_+_, _*_, _≤_, max};
 ghost use lib.ListN.{length};
-ghost use Rattle.fields.specs.Field.{words};
-ghost use Rattle.forms.specs.Roster.{count};
-ghost use Rattle.evidence.specs.Rows.{rowsAt, putRows};
-ghost use Rattle.rules.specs.Describe.{window, lastTick, freshNode};
-ghost use Rattle.rules.specs.Record.{putRecords};
-ghost use Rattle.rules.specs.Rules.{canR1, canR2, canR3, jumpTo, wakeAt, orJump, orWake, firstRule, atRest, CanFire, woken, fired, said, settle};
-ghost use Rattle.rules.specs.Delivery.{State, answer, delivered};
-ghost use Rattle.rules.specs.Steps.{RowsIn, SettledAs, DeliveredAs};
+ghost use Rattle.rules.specs.Describe.{window, lastTick, mostFirings, freshNode};
+ghost use Rattle.rules.specs.Record.{recordSize};
+ghost use Rattle.rules.specs.Rules.{canR3, firstRule, atRest, woken, fired, said, settle};
+ghost use Rattle.rules.specs.Delivery.{answer, delivered};
+ghost use Rattle.rules.specs.Steps.{rowsFrom, stateFrom, RowsIn, canEcho, jumpOrWake, CanFire};
+ghost use Rattle.rules.specs.Steps.{SentAs, CanSettle, SettledAs, CanDeliver, DeliveredAs};
 
 // The rule that fires next: none, R1 or R2, R3, R4 to tick l, R5 at tick x.
 pub enum Rule {
@@ -67,6 +67,12 @@ impl Node {
 
     pub const LAST_TICK: u32 = 4_000_000_000;
 
+    // How many rules one delivery may fire.
+    pub const MOST_FIRINGS: u32 = 15;
+
+    // Bytes of output that boot and deliver ask: a record for each firing, and the answer.
+    pub const ROOM: usize = (Node::MOST_FIRINGS as usize + 1) * RECORD;
+
     // A fresh node: clock 0, last echo 0, passive.
     pub fn new(lines: u32, faults: u32, own: u32) -> Node
         ensures { λ r. ⌜ r ≡ freshNode lines faults own ⌝ }
@@ -84,18 +90,18 @@ impl Node {
     // R1 or R2: echo k is unsent, and (init, k) or (echo, k) is held by f + 1.
     fn can_echo(self, b: &[u8], i: usize) -> bool
         requires { ⌜ RowsIn self (now b) i ⌝ }
-        ensures { λ r. ⌜ r ≡ (canR1 window self (rowsAt 8 (self .lines) (now (b .entry)) i) || canR2 window self (rowsAt 8 (self .lines) (now (b .entry)) i)) ⌝ }
+        ensures { λ r. ⌜ r ≡ canEcho self (rowsFrom self (now (b .entry)) i) ⌝ }
     {
         let n = self.lines as usize;
         let k = self.tick;
         let f = self.faults as usize;
         let enough = f + 1;
         if self.sent < k {
-            let inits = count_holders(b, i, n, 1, Node::WINDOW, k);
+            let inits = count_holders(b, i, n, INIT, Node::WINDOW, k);
             if enough <= inits {
                 return true;
             }
-            let echoes = count_holders(b, i, n, 2, Node::WINDOW, k);
+            let echoes = count_holders(b, i, n, ECHO, Node::WINDOW, k);
             if enough <= echoes {
                 return true;
             }
@@ -106,13 +112,13 @@ impl Node {
     // R3: (echo, k) is held by n - f, and k is below the last tick.
     fn can_tick(self, b: &[u8], i: usize) -> bool
         requires { ⌜ RowsIn self (now b) i ⌝ }
-        ensures { λ r. ⌜ r ≡ canR3 window lastTick self (rowsAt 8 (self .lines) (now (b .entry)) i) ⌝ }
+        ensures { λ r. ⌜ r ≡ canR3 window lastTick self (rowsFrom self (now (b .entry)) i) ⌝ }
     {
         let n = self.lines as usize;
         let k = self.tick;
         let enough = n - self.faults as usize;
         if k < Node::LAST_TICK {
-            return enough <= count_holders(b, i, n, 2, Node::WINDOW, k);
+            return enough <= count_holders(b, i, n, ECHO, Node::WINDOW, k);
         }
         false
     }
@@ -120,16 +126,16 @@ impl Node {
     // R4 or R5, or none.
     fn jump_or_wake(self, b: &[u8], i: usize) -> Rule
         requires { ⌜ RowsIn self (now b) i ⌝ }
-        ensures { λ r. ⌜ r ≡ orJump (jumpTo window self (rowsAt 8 (self .lines) (now (b .entry)) i)) (orWake (wakeAt window self (rowsAt 8 (self .lines) (now (b .entry)) i))) ⌝ }
+        ensures { λ r. ⌜ r ≡ jumpOrWake self (rowsFrom self (now (b .entry)) i) ⌝ }
     {
         let n = self.lines as usize;
         let enough = self.faults as usize + 1;
-        let jump = find_greatest(b, i, n, 2, Node::WINDOW, enough, self.tick as u64 + 2);
+        let jump = find_greatest(b, i, n, ECHO, Node::WINDOW, enough, self.tick as u64 + 2);
         if 0 < jump {
             return Rule::Jump((jump - 1) as u32);
         }
         if self.mode == 0 {
-            let wake = find_greatest(b, i, n, 1, Node::WINDOW, enough, 0);
+            let wake = find_greatest(b, i, n, INIT, Node::WINDOW, enough, 0);
             if 0 < wake {
                 return Rule::Wake((wake - 1) as u32);
             }
@@ -140,7 +146,7 @@ impl Node {
     // The first rule that can fire.
     pub fn rule(self, b: &[u8], i: usize) -> Rule
         requires { ⌜ RowsIn self (now b) i ⌝ }
-        ensures { λ r. ⌜ r ≡ firstRule window lastTick (rowsAt 8 (self .lines) (now (b .entry)) i) self ⌝ }
+        ensures { λ r. ⌜ r ≡ firstRule window lastTick (rowsFrom self (now (b .entry)) i) self ⌝ }
     {
         if self.can_echo(b, i) {
             return Rule::Echo;
@@ -191,27 +197,27 @@ impl Node {
 
     // Puts what a rule sends behind the records that are there, and gives the new count.
     fn say(self, rule: Rule, out: &mut [u8], records: usize) -> usize
-        requires { ⌜ (CanFire lastTick self rule) × (12 * records + 12 ≤ length (now out)) ⌝ }
-        ensures { λ r. ⌜ (r ≡ records + length (said self rule)) × (r ≤ records + 1) × (now (out .exit) ≡ putRecords (now (out .entry)) (12 * records) (said self rule)) ⌝ }
+        requires { ⌜ (CanFire lastTick self rule) × (recordSize * records + recordSize ≤ length (now out)) ⌝ }
+        ensures { λ r. ⌜ SentAs 1 (said self rule) records (now (out .entry)) r (now (out .exit)) ⌝ }
     {
         match rule {
             Rule::Rest => records,
             Rule::Echo => {
-                put_record(out, 12 * records, 0, 2, self.tick);
+                put_record(out, RECORD * records, 0, ECHO, self.tick);
                 records + 1
             }
             Rule::Tick => {
-                put_record(out, 12 * records, 0, 1, self.tick + 1);
+                put_record(out, RECORD * records, 0, INIT, self.tick + 1);
                 records + 1
             }
             Rule::Jump(l) => {
-                put_record(out, 12 * records, 0, 2, l - 1);
+                put_record(out, RECORD * records, 0, ECHO, l - 1);
                 records + 1
             }
             Rule::Wake(x) => {
                 let k = self.woken(x);
                 if self.sent < k {
-                    put_record(out, 12 * records, 0, 2, k);
+                    put_record(out, RECORD * records, 0, ECHO, k);
                     return records + 1;
                 }
                 records
@@ -221,13 +227,13 @@ impl Node {
 
     // Fires the first rule that can until none can, and puts the records behind the `start` that are there.
     fn settle(self, b: &[u8], i: usize, out: &mut [u8], start: usize) -> Next
-        requires { ⌜ (RowsIn self (now b) i) × (192 ≤ length (now out)) × (start ≤ 1) ⌝ }
-        ensures { λ r. ⌜ SettledAs (settle window lastTick (rowsAt 8 (self .lines) (now (b .entry)) i) 15 self) start (now (out .entry)) r (now (out .exit)) ⌝ }
-        ensures { λ r. ⌜ r .records ≤ start + 15 ⌝ }
+        requires { ⌜ CanSettle self (now b) i (now out) start ⌝ }
+        ensures { λ r. ⌜ SettledAs (settle window lastTick (rowsFrom self (now (b .entry)) i) mostFirings self)
+            start (now (out .entry)) r (now (out .exit)) ⌝ }
     {
         let mut node = self;
         let mut records = start;
-        let mut left: u32 = 15;
+        let mut left = Node::MOST_FIRINGS;
         while 0 < left {
             let rule = node.rule(b, i);
             if rule.is_at_rest() {
@@ -242,13 +248,13 @@ impl Node {
 
     // The answer to (echo, 0) of another serial: the last echo sent before this delivery.
     fn answer(self, port: u32, frame: Frame, out: &mut [u8]) -> usize
-        requires { ⌜ 12 ≤ length (now out) ⌝ }
-        ensures { λ r. ⌜ (r ≡ length (answer self port (frame .kind) (frame .tick))) × (r ≤ 1) × (now (out .exit) ≡ putRecords (now (out .entry)) 0 (answer self port (frame .kind) (frame .tick))) ⌝ }
+        requires { ⌜ recordSize ≤ length (now out) ⌝ }
+        ensures { λ r. ⌜ SentAs 1 (answer self port (frame .kind) (frame .tick)) 0 (now (out .entry)) r (now (out .exit)) ⌝ }
     {
-        if frame.kind == 2 {
+        if frame.kind == ECHO {
             if frame.tick == 0 {
                 if port != self.own {
-                    put_record(out, 0, port, 2, self.sent);
+                    put_record(out, 0, port, ECHO, self.sent);
                     return 1;
                 }
             }
@@ -258,8 +264,9 @@ impl Node {
 
     // One delivery: the frame is credited to the port's row, answered where it asks for that, and the rules fire.
     pub fn deliver(self, b: &mut [u8], i: usize, port: u32, frame: Frame, out: &mut [u8]) -> Next
-        requires { ⌜ (RowsIn self (now b) i) × (192 ≤ length (now out)) × (count port (words (self .lines) 28 (now b) i) ≤ 1) ⌝ }
-        ensures { λ r. ⌜ DeliveredAs (delivered window lastTick (record { node = self; rows = rowsAt 8 (self .lines) (now (b .entry)) i }) port (frame .kind) (frame .tick)) (now (b .entry)) i (now (out .entry)) r (now (b .exit)) (now (out .exit)) ⌝ }
+        requires { ⌜ CanDeliver self (now b) i port (now out) ⌝ }
+        ensures { λ r. ⌜ DeliveredAs (delivered window lastTick (stateFrom self (now (b .entry)) i) port (frame .kind) (frame .tick))
+            (now (b .entry)) i (now (out .entry)) r (now (b .exit)) (now (out .exit)) ⌝ }
     {
         let n = self.lines as usize;
         credit_row(b, i, n, Node::WINDOW, port, frame.kind, frame.tick);

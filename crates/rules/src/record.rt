@@ -4,13 +4,13 @@ use forms::frame::put_frame;
 ghost use mathlib.Core.Path.{_≡_};
 ghost use Prim.Native.Nat.{_+_, _≤_, _<_};
 ghost use lib.ListN.{length};
-ghost use Rattle.rules.specs.Record.{putRecord};
+ghost use Rattle.rules.specs.Record.{recordSize, putRecord};
 
 // Bytes of a record.
 pub const RECORD: usize = 12;
 
 pub fn put_record(out: &mut [u8], i: usize, dest: u32, kind: u32, tick: u32)
-    requires { ⌜ (i + 12 ≤ length (now out)) × (kind < 256) ⌝ }
+    requires { ⌜ (i + recordSize ≤ length (now out)) × (kind < 256) ⌝ }
     ensures { λ _. ⌜ now (out .exit) ≡ putRecord (now (out .entry)) i (record { dest = dest; kind = kind; tick = tick }) ⌝ }
 {
     put_word(out, i, dest);

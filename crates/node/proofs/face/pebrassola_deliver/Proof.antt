@@ -67,7 +67,11 @@ deliver-requires c κs =
     let a = c .before .before .before .before .before .before .before .before .before .before .before .before .args in
     let h = sound (c .before .before .before .before .before .before) in
     rw (c .before .before .read-node .ensures)
-    (sound-rows lastTick (now (a .image)) h, taken (c .before .before .before .before .before .before) .room, sound-once lastTick (now (a .image)) h _)
+    (record {
+      rows = sound-rows lastTick (now (a .image)) h;
+      space = taken (c .before .before .before .before .before .before) .room;
+      once = sound-once lastTick (now (a .image)) h _;
+    })
 
 -- the frame is credited to the port's row
 credited : (c : tie.After-deliver) →

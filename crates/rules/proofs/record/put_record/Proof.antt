@@ -24,8 +24,10 @@ same-length c = search needs
 returns : tie.Need-returns
 unfolding putRecord
 returns c =
-    let a = c .before .before .before .before .before .before .before .before .before .args in
-    c .before .before .put-frame .ensures ∙ ap (λ (out : List ℕ). putFrame out (a .i + 4) (a .kind) (a .tick)) (c .before .before .before .before .before .before .put-word .ensures)
+    let words = c .before .before .before .before .before .before in
+    let a = words .before .before .before .args in
+    c .before .before .put-frame .ensures
+    ∙ ap (λ (out : List ℕ). putFrame out (a .i + 4) (a .kind) (a .tick)) (words .put-word .ensures)
 
 pub put-record-spec : {M : Type 1} → statement M
 put-record-spec =

@@ -7,9 +7,9 @@ use Prim.Native.Nat.{_+_}
 use native.Mathlib.Omega.{arith}
 use borrow.Author.Tests.{lt-ltb, le-ltb, le-leb, lt-leb}
 use denote.Ref.{now}
-use Rattle.evidence.specs.Rows.{rowsAt}
 use Rattle.rules.specs.Describe.{window}
 use Rattle.rules.specs.Rules.{canR1}
+use Rattle.rules.specs.Steps.{rowsFrom}
 use Rattle.rules.proofs.node.Node.can_echo.Statement.{statement}
 use Rattle.rules.proofs.node.Node.can_echo.Tie as tie
 
@@ -38,8 +38,12 @@ count-holders-requires-2 : tie.Need-count-holders-requires-2
 count-holders-requires-2 c κs = search needs
 
 -- past the test of inits R1 cannot fire
-no-init : (c : tie.Else2) → let a = c .before .before .before .before .before .before .before .args in canR1 window (a .self) (rowsAt 8 (a .self .lines) (now (a .b)) (a .i)) ≡ false
-no-init c = rw (← c .before .count-holders .ensures .0, lt-leb (c .before .before .before .before .before .before .before .args .self .faults + 1) (c .before .count-holders .result) (omega arith))
+no-init : (c : tie.Else2) →
+    let a = c .before .before .before .before .before .before .before .args in
+    canR1 window (a .self) (rowsFrom (a .self) (now (a .b)) (a .i)) ≡ false
+no-init c =
+    let p = c .before .before .before .before .before .before .before .args .self in
+    rw (← c .before .count-holders .ensures .0, lt-leb (p .faults + 1) (c .before .count-holders .result) (omega arith))
 
 returns-2 : tie.Need-returns-2
 returns-2 c =
@@ -54,7 +58,11 @@ returns-2 c =
 returns-3 : tie.Need-returns-3
 returns-3 c =
     let p = c .before .before .before .before .before .before .before .before .before .args .self in
-    rw (no-init (c .before .before), ← c .before .count-holders2 .ensures .0, lt-leb (p .faults + 1) (c .before .count-holders2 .result) (omega arith))
+    rw (
+      no-init (c .before .before),
+      ← c .before .count-holders2 .ensures .0,
+      lt-leb (p .faults + 1) (c .before .count-holders2 .result) (omega arith),
+    )
 
 returns-4 : tie.Need-returns-4
 returns-4 c =

@@ -5,6 +5,7 @@ use mathlib.Core.Path.{refl}
 use mathlib.Core.Bool.{and-true, and-false}
 use native.Mathlib.Omega.{arith}
 use borrow.Author.Tests.{lt-ltb, le-ltb}
+use Rattle.rules.specs.Describe.{lastTick}
 use Rattle.rules.proofs.node.Node.can_tick.Statement.{statement}
 use Rattle.rules.proofs.node.Node.can_tick.Tie as tie
 
@@ -23,11 +24,11 @@ count-holders-requires c κs = search needs
 returns : tie.Need-returns
 returns c =
     let p = c .before .before .before .before .before .args .self in
-    rw (← c .count-holders .ensures .0, lt-ltb (p .tick) 4000000000 (omega arith), and-true) refl
+    rw (← c .count-holders .ensures .0, lt-ltb (p .tick) lastTick (omega arith), and-true) refl
 
 returns-2 : tie.Need-returns-2
 returns-2 c =
-    let p = c .before .before .before .before .args .self in rw (le-ltb (p .tick) 4000000000 (omega arith), and-false)
+    let p = c .before .before .before .before .args .self in rw (le-ltb (p .tick) lastTick (omega arith), and-false)
 
 pub can-tick-spec : {M : Type 1} → statement M
 can-tick-spec =

@@ -5,9 +5,9 @@ use mathlib.Core.Path.{_≡_, sym}
 use native.Mathlib.Omega.{arith}
 use borrow.Author.Tests.{eq-eqb, ne-eqb}
 use denote.Ref.{now}
-use Rattle.evidence.specs.Rows.{rowsAt}
 use Rattle.rules.specs.Describe.{window}
 use Rattle.rules.specs.Rules.{jumpTo, wakeAt, orWake}
+use Rattle.rules.specs.Steps.{rowsFrom}
 use Rattle.rules.proofs.Firing.{jump-some, wake-some}
 use Rattle.rules.proofs.node.Node.jump_or_wake.Statement.{statement}
 use Rattle.rules.proofs.node.Node.jump_or_wake.Tie as tie
@@ -37,14 +37,16 @@ cast-t13 : tie.Need-cast-t13
 cast-t13 c = search needs
 
 -- the first search gives what R4 asks
-jumps : (c : tie.After-find-greatest) → let a = c .before .before .before .before .before .args in c .find-greatest .result ≡ jumpTo window (a .self) (rowsAt 8 (a .self .lines) (now (a .b)) (a .i))
+jumps : (c : tie.After-find-greatest) →
+    let a = c .before .before .before .before .before .args in
+    c .find-greatest .result ≡ jumpTo window (a .self) (rowsFrom (a .self) (now (a .b)) (a .i))
 jumps c = omega arith
 
 returns : tie.Need-returns
 returns c =
     let a = c .before .before .before .before .before .before .args in
-    rw (← jumps (c .before))
-    (sym (jump-some (c .before .find-greatest .result) (orWake (wakeAt window (a .self) (rowsAt 8 (a .self .lines) (now (a .b)) (a .i)))) (c .if1 .taken)))
+    let wakes = orWake (wakeAt window (a .self) (rowsFrom (a .self) (now (a .b)) (a .i))) in
+    rw (← jumps (c .before)) (sym (jump-some (c .before .find-greatest .result) wakes (c .if1 .taken)))
 
 find-greatest-requires-2 : tie.Need-find-greatest-requires-2
 find-greatest-requires-2 c κs = search needs
@@ -56,22 +58,31 @@ cast-t16 : tie.Need-cast-t16
 cast-t16 c = search needs
 
 -- past the first test there is no tick to jump to
-no-jump : (c : tie.Else1) → let a = c .before .before .before .before .before .before .args in jumpTo window (a .self) (rowsAt 8 (a .self .lines) (now (a .b)) (a .i)) ≡ 0
+no-jump : (c : tie.Else1) →
+    let a = c .before .before .before .before .before .before .args in
+    jumpTo window (a .self) (rowsFrom (a .self) (now (a .b)) (a .i)) ≡ 0
 no-jump c =
     let none : c .before .find-greatest .result ≡ 0 = omega arith in rw (← jumps (c .before)) none
 
 returns-2 : tie.Need-returns-2
 returns-2 c =
-    rw (no-jump (c .before .before .before .before), eq-eqb (c .before .before .before .before .before .before .before .before .before .before .args .self .mode) 0 (c .before .before .if2 .taken), ← c .before .find-greatest2 .ensures .0)
+    let past = c .before .before .before .before in
+    let p = past .before .before .before .before .before .before .args .self in
+    rw (no-jump past, eq-eqb (p .mode) 0 (c .before .before .if2 .taken), ← c .before .find-greatest2 .ensures .0)
     (sym (wake-some (c .before .find-greatest2 .result) (c .if3 .taken)))
 
 returns-3 : tie.Need-returns-3
 returns-3 c =
+    let past = c .before .before .before .before in
+    let p = past .before .before .before .before .before .before .args .self in
     let none : c .before .find-greatest2 .result ≡ 0 = omega arith in
-    rw (no-jump (c .before .before .before .before), eq-eqb (c .before .before .before .before .before .before .before .before .before .before .args .self .mode) 0 (c .before .before .if2 .taken), ← c .before .find-greatest2 .ensures .0, none)
+    rw (no-jump past, eq-eqb (p .mode) 0 (c .before .before .if2 .taken), ← c .before .find-greatest2 .ensures .0, none)
 
 returns-4 : tie.Need-returns-4
-returns-4 c = rw (no-jump (c .before .before), ne-eqb (c .before .before .before .before .before .before .before .before .args .self .mode) 0 (c .if2 .left))
+returns-4 c =
+    let past = c .before .before in
+    let p = past .before .before .before .before .before .before .args .self in
+    rw (no-jump past, ne-eqb (p .mode) 0 (c .if2 .left))
 
 pub jump-or-wake-spec : {M : Type 1} → statement M
 jump-or-wake-spec =

@@ -16,14 +16,17 @@ can-tick-requires c κs = search needs
 
 returns-2 : tie.Need-returns-2
 returns-2 c =
-    rw (first-rule, ← c .before .before .before .can-echo .ensures, c .before .before .if1 .left, ← c .before .can-tick .ensures, c .if2 .taken)
+    let past = c .before .before in
+    rw (first-rule, ← past .before .can-echo .ensures, past .if1 .left, ← c .before .can-tick .ensures, c .if2 .taken)
 
 jump-or-wake-requires : tie.Need-jump-or-wake-requires
 jump-or-wake-requires c κs = search needs
 
 returns-3 : tie.Need-returns-3
 returns-3 c =
-    rw (first-rule, ← c .before .before .before .before .can-echo .ensures, c .before .before .before .if1 .left, ← c .before .before .can-tick .ensures, c .before .if2 .left) (c .jump-or-wake .ensures)
+    let past = c .before .before .before in
+    rw (first-rule, ← past .before .can-echo .ensures, past .if1 .left, ← c .before .before .can-tick .ensures, c .before .if2 .left)
+    (c .jump-or-wake .ensures)
 
 pub rule-spec : {M : Type 1} → statement M
 rule-spec =

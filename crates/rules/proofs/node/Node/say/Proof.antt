@@ -1,11 +1,10 @@
 -- `Node::say` meets its contract, rule by rule: each says one record or none, and that goes behind the records that are there.
 -- Assumes nothing.
 use borrow.Author.Needs.{needs}
-use mathlib.Core.Path.{refl}
 use native.Mathlib.Omega.{arith}
 use borrow.Author.Tests.{lt-ltb, le-ltb}
-use Rattle.rules.specs.Record.{putRecords}
 use Rattle.rules.specs.Rules.{said}
+use Rattle.rules.proofs.Records.{sent-none, sent-one}
 use Rattle.rules.proofs.node.Node.say.Statement.{statement}
 use Rattle.rules.proofs.node.Node.say.Tie as tie
 
@@ -73,41 +72,45 @@ same-length : tie.Need-same-length
 same-length c = search needs
 
 returns : tie.Need-returns
-unfolding said putRecords
+unfolding said
 returns c =
-    rw (c .before .before .before .before .before .before .before .before .rule2 .given .1, ← c .before .before .before .before .before .before .woken .ensures, lt-ltb (c .before .before .before .before .before .before .before .before .before .before .before .args .self .sent) (c .before .before .before .before .before .before .woken .result) (c .before .before .before .before .if1 .taken))
-    (refl, omega arith, c .before .before .put-record4 .ensures)
+    let woke = c .before .before .before .before .before .before in
+    let p = woke .before .before .before .before .before .args .self in
+    let unsent = c .before .before .before .before .if1 .taken in
+    rw (woke .before .before .rule2 .given .1, ← woke .woken .ensures, lt-ltb (p .sent) (woke .woken .result) unsent)
+    (sent-one (c .before .before .put-record4 .ensures))
 
 returns-2 : tie.Need-returns-2
-unfolding said putRecords
-returns-2 c = rw (c .enum-told .given .1) (omega arith, omega arith, refl)
+unfolding said
+returns-2 c = rw (c .enum-told .given .1) sent-none
 
 same-length-2 : tie.Need-same-length-2
 same-length-2 c = search needs
 
 returns-3 : tie.Need-returns-3
-unfolding said putRecords
-returns-3 c = rw (c .before .before .before .before .enum-told2 .given .1) (refl, omega arith, c .before .before .put-record .ensures)
+unfolding said
+returns-3 c = rw (c .before .before .before .before .enum-told2 .given .1) (sent-one (c .before .before .put-record .ensures))
 
 same-length-3 : tie.Need-same-length-3
 same-length-3 c = search needs
 
 returns-4 : tie.Need-returns-4
-unfolding said putRecords
-returns-4 c = rw (c .before .before .before .before .before .enum-told3 .given .1) (refl, omega arith, c .before .before .put-record2 .ensures)
+unfolding said
+returns-4 c = rw (c .before .before .before .before .before .enum-told3 .given .1) (sent-one (c .before .before .put-record2 .ensures))
 
 same-length-4 : tie.Need-same-length-4
 same-length-4 c = search needs
 
 returns-5 : tie.Need-returns-5
-unfolding said putRecords
-returns-5 c = rw (c .before .before .before .before .before .rule .given .1) (refl, omega arith, c .before .before .put-record3 .ensures)
+unfolding said
+returns-5 c = rw (c .before .before .before .before .before .rule .given .1) (sent-one (c .before .before .put-record3 .ensures))
 
 returns-6 : tie.Need-returns-6
-unfolding said putRecords
+unfolding said
 returns-6 c =
-    rw (c .before .before .before .before .rule2 .given .1, ← c .before .before .woken .ensures, le-ltb (c .before .before .before .before .before .before .before .args .self .sent) (c .before .before .woken .result) (c .if1 .left))
-    (omega arith, omega arith, refl)
+    let woke = c .before .before in
+    let p = woke .before .before .before .before .before .args .self in
+    rw (woke .before .before .rule2 .given .1, ← woke .woken .ensures, le-ltb (p .sent) (woke .woken .result) (c .if1 .left)) sent-none
 
 pub say-spec : {M : Type 1} → statement M
 say-spec =

@@ -9,11 +9,12 @@ use native.Mathlib.Nat.{add-zero}
 use native.Mathlib.Omega.{arith}
 use denote.Ref.{now}
 use lib.ListN.{length, length-append}
+use Rattle.sets.specs.Sets.{maskBytes}
 use Rattle.evidence.specs.Rows.{Row, rowsAt}
-use Rattle.rules.specs.Describe.{window, lastTick}
-use Rattle.rules.specs.Record.{putRecords}
-use Rattle.rules.specs.Rules.{Settled, firstRule, atRest, CanFire, fired, said, still, settle}
-use Rattle.rules.specs.Steps.{SettledAs}
+use Rattle.rules.specs.Describe.{window, lastTick, mostFirings}
+use Rattle.rules.specs.Record.{recordSize, putRecords}
+use Rattle.rules.specs.Rules.{Settled, still, firstRule, atRest, fired, said, settle}
+use Rattle.rules.specs.Steps.{rowsFrom, CanFire, SettledAs}
 use Rattle.rules.specs.declared.node.Node.{Node}
 use Rattle.rules.specs.declared.node.Rule.{Rule}
 use Rattle.rules.proofs.Firing.{can-fire, rest-true, said-few, Same, same-trans, fired-same, settle-none, settle-rest, settle-down}
@@ -26,77 +27,102 @@ abbrev from : List Row → ℕ → Node → Settled
 from rows c p = settle window lastTick rows c p
 
 -- where a turn begins: a node, its count of records and the firings left, against those of the start
-record Settling (rows : List Row) (start : ℕ) (out₀ : List ℕ) (p₀ : Node) (out : List ℕ) (p : Node) (records left : ℕ) : Type 0 where
-  node : from rows left p .node ≡ from rows 15 p₀ .node
-  count : records + length (from rows left p .records) ≡ start + length (from rows 15 p₀ .records)
-  bytes : putRecords out (12 * records) (from rows left p .records) ≡ putRecords out₀ (12 * start) (from rows 15 p₀ .records)
-  few : records + left ≤ start + 15
+record Settling (rows : List Row) (start : ℕ) (out₀ : List ℕ) (p₀ : Node) (out : List ℕ) (p : Node) (n left : ℕ) : Type 0 where
+  node : from rows left p .node ≡ from rows mostFirings p₀ .node
+  count : n + length (from rows left p .records) ≡ start + length (from rows mostFirings p₀ .records)
+  bytes :
+      putRecords out (recordSize * n) (from rows left p .records)
+      ≡ putRecords out₀ (recordSize * start) (from rows mostFirings p₀ .records)
+  few : n + left ≤ start + mostFirings
   same : Same p p₀
-  room : length out ≡ length out₀
+  space : length out ≡ length out₀
 
--- at rest all is said
-ended : {rows : List Row} {start : ℕ} {out₀ : List ℕ} {p₀ : Node} {out : List ℕ} {p : Node} {records left : ℕ} → Settling rows start out₀ p₀ out p records left → from rows left p ≡ still p → SettledAs (from rows 15 p₀) start out₀ (record { node = p; records = records }) out
-ended {rows} {start} {out₀} {p₀} {out} {p} {records} {left} h e =
-    record {
-      node = sym (ap (λ (s : Settled). s .node) e) ∙ h .node;
-      records = sym (add-zero records) ∙ sym (ap (λ (s : Settled). records + length (s .records)) e) ∙ h .count;
-      bytes = sym (put-records-none out (12 * records)) ∙ sym (ap (λ (s : Settled). putRecords out (12 * records) (s .records)) e) ∙ h .bytes;
-    }
+module _
+    {rows : List Row} {start : ℕ} {out₀ : List ℕ} {p₀ : Node} {out : List ℕ} {p : Node} {n left : ℕ}
+    (h : Settling rows start out₀ p₀ out p n left)
+  where
+    -- at rest all is said
+    ended : from rows left p ≡ still p → SettledAs (from rows mostFirings p₀) start out₀ (record { node = p; records = n }) out
+    ended e =
+        record {
+          node = sym (ap (λ (s : Settled). s .node) e) ∙ h .node;
+          sent =
+              record {
+                records = sym (add-zero n) ∙ sym (ap (λ (s : Settled). n + length (s .records)) e) ∙ h .count;
+                few = omega arith;
+                bytes =
+                    sym (put-records-none out (recordSize * n))
+                    ∙ sym (ap (λ (s : Settled). putRecords out (recordSize * n) (s .records)) e) ∙ h .bytes;
+              };
+        }
 
--- a firing more
-fires : {rows : List Row} {start : ℕ} {out₀ : List ℕ} {p₀ : Node} {out : List ℕ} {p : Node} {records left : ℕ} → Settling rows start out₀ p₀ out p records left → 0 < left → (rule : Rule) → rule ≡ firstRule window lastTick rows p → atRest rule ≡ false → Settling rows start out₀ p₀ (putRecords out (12 * records) (said p rule)) (fired p rule) (records + length (said p rule)) (left - 1)
-fires {rows} {start} {out₀} {p₀} {out} {p} {records} {left} h l rule e goes =
-    let first = firstRule window lastTick rows p in
-    let next = from rows (left - 1) (fired p first) in
-    let down = settle-down window lastTick rows left p l (rw e at goes) in
-    let told : from rows left p .records ≡ said p first ++ next .records = ap (λ (s : Settled). s .records) down in
-    rw e
-    (record {
-      node = sym (ap (λ (s : Settled). s .node) down) ∙ h .node;
-      count = omega (arith, ap length told, length-append (said p first) (next .records));
-      bytes = sym (put-records-behind out records (records + length (said p first)) (said p first) (next .records) refl) ∙ ap (putRecords out (12 * records)) (sym told) ∙ h .bytes;
-      few = omega (arith, said-few p first);
-      same = same-trans (fired-same p first) (h .same);
-      room = length-putRecords out (12 * records) (said p first) ∙ h .room;
-    })
+    -- a firing more
+    fires :
+        0 < left
+        → (rule : Rule)
+        → rule ≡ firstRule window lastTick rows p
+        → atRest rule ≡ false
+        → let after = putRecords out (recordSize * n) (said p rule) in
+        Settling rows start out₀ p₀ after (fired p rule) (n + length (said p rule)) (left - 1)
+    fires l rule e goes =
+        let first = firstRule window lastTick rows p in
+        let next = from rows (left - 1) (fired p first) in
+        let down = settle-down window lastTick rows left p l (rw e at goes) in
+        let told : from rows left p .records ≡ said p first ++ next .records = ap (λ (s : Settled). s .records) down in
+        rw e
+        (record {
+          node = sym (ap (λ (s : Settled). s .node) down) ∙ h .node;
+          count = omega (arith, ap length told, length-append (said p first) (next .records));
+          bytes =
+              sym (put-records-behind out n (n + length (said p first)) (said p first) (next .records) refl)
+              ∙ ap (putRecords out (recordSize * n)) (sym told) ∙ h .bytes;
+          few = omega (arith, said-few p first);
+          same = same-trans (fired-same p first) (h .same);
+          space = length-putRecords out (recordSize * n) (said p first) ∙ h .space;
+        })
 
 abbrev Inv-loop : tie.InvT-loop
-Inv-loop b i out₀ start node₀ records₀ left₀ out node records left = Settling (rowsAt 8 (node₀ .lines) b i) start out₀ node₀ out node records left
+Inv-loop b i out₀ start node₀ records₀ left₀ out node records left =
+    Settling (rowsFrom node₀ b i) start out₀ node₀ out node records left
 
 abbrev μ-loop : tie.MeasureT-loop
 μ-loop b i out₀ start node₀ records₀ left₀ out node records left = left
 
 loop-holds : tie.Need-loop-holds Inv-loop μ-loop
-loop-holds c = record { node = refl; count = refl; bytes = refl; few = omega arith; same = record { lines = refl; faults = refl; own = refl }; room = refl }
+loop-holds c = record { node = refl; count = refl; bytes = refl; few = omega arith; same = omega arith; space = refl }
 
 rule-requires : tie.Need-rule-requires Inv-loop μ-loop
 rule-requires c κs = omega arith
 
 -- the rule is the first that can fire, over the rows as they were at the start
-first : (c : tie.After-rule Inv-loop μ-loop) → let a = c .before .before .before .before .before .args in c .rule .result ≡ firstRule window lastTick (rowsAt 8 (a .self .lines) (now (a .b)) (a .i)) (c .before .before .loop .node)
+first : (c : tie.After-rule Inv-loop μ-loop) →
+    let a = c .before .before .before .before .before .args in
+    c .rule .result ≡ firstRule window lastTick (rowsFrom (a .self) (now (a .b)) (a .i)) (c .before .before .loop .node)
 first c =
     let a = c .before .before .before .before .before .args in
     let l = c .before .before .loop in
-    c .rule .ensures ∙ ap (λ (n : ℕ). firstRule window lastTick (rowsAt 8 n (now (a .b)) (a .i)) (l .node)) (l .inv .same .lines)
+    c .rule .ensures
+    ∙ ap (λ (n : ℕ). firstRule window lastTick (rowsAt maskBytes n (now (a .b)) (a .i)) (l .node)) (l .inv .same .lines)
 
 can : (c : tie.After-rule Inv-loop μ-loop) → CanFire lastTick (c .before .before .loop .node) (c .rule .result)
 can c =
     let a = c .before .before .before .before .before .args in
     let p = c .before .before .loop .node in
-    subst (CanFire lastTick p) (sym (first c)) (can-fire window lastTick (rowsAt 8 (a .self .lines) (now (a .b)) (a .i)) p)
+    subst (CanFire lastTick p) (sym (first c)) (can-fire window lastTick (rowsFrom (a .self) (now (a .b)) (a .i)) p)
 
 is-at-rest-requires : tie.Need-is-at-rest-requires Inv-loop μ-loop
 is-at-rest-requires c κs = search needs
 
 same-length : tie.Need-same-length Inv-loop μ-loop
-same-length c = c .before .before .before .before .loop .inv .room
+same-length c = c .before .before .before .before .loop .inv .space
 
 returns : tie.Need-returns Inv-loop μ-loop
 returns c =
     let a = c .before .before .before .before .before .before .before .args in
     let l = c .before .before .before .before .loop in
     let rests = rest-true (c .before .before .rule .result) (sym (c .before .is-at-rest .ensures) ∙ c .if1 .taken) in
-    (ended (l .inv) (settle-rest window lastTick (rowsAt 8 (a .self .lines) (now (a .b)) (a .i)) (l .left) (l .node) (sym (first (c .before .before)) ∙ rests)), omega arith)
+    ended (l .inv)
+    (settle-rest window lastTick (rowsFrom (a .self) (now (a .b)) (a .i)) (l .left) (l .node) (sym (first (c .before .before)) ∙ rests))
 
 -- by search, which meets it for any rule: that the rule said is the first one shows in `counted`
 say-requires : tie.Need-say-requires Inv-loop μ-loop
@@ -112,7 +138,9 @@ loop-less : tie.Need-loop-less Inv-loop μ-loop
 loop-less c = search needs
 
 -- the count goes up by what the rule says
-counted : (c : tie.After-say Inv-loop μ-loop) → let l = c .before .before .before .before .before .before .loop in c .say .result ≡ l .records + length (said (l .node) (c .before .before .before .before .rule .result))
+counted : (c : tie.After-say Inv-loop μ-loop) →
+    let l = c .before .before .before .before .before .before .loop in
+    c .say .result ≡ l .records + length (said (l .node) (c .before .before .before .before .rule .result))
 counted c = omega arith
 
 loop-again : tie.Need-loop-again Inv-loop μ-loop
@@ -120,19 +148,20 @@ loop-again c =
     let says = c .before .before .before in
     let rests = says .before .before .before in
     let rules = rests .before in
-    rw (c .fire .ensures, counted says, says .say .ensures .2)
-    (fires (rules .before .before .loop .inv) (rules .before .loop-test .taken) (rules .rule .result) (first rules) (sym (rests .is-at-rest .ensures) ∙ says .before .before .if1 .left))
+    rw (c .fire .ensures, counted says, says .say .ensures .bytes)
+    (fires (rules .before .before .loop .inv) (rules .before .loop-test .taken) (rules .rule .result) (first rules)
+    (sym (rests .is-at-rest .ensures) ∙ says .before .before .if1 .left))
 
 same-length-2 : tie.Need-same-length-2 Inv-loop μ-loop
-same-length-2 c = c .before .loop .inv .room
+same-length-2 c = c .before .loop .inv .space
 
 returns-2 : tie.Need-returns-2 Inv-loop μ-loop
 returns-2 c =
     let a = c .before .before .before .before .args in
     let l = c .before .loop in
-    let rows = rowsAt 8 (a .self .lines) (now (a .b)) (a .i) in
+    let rows = rowsFrom (a .self) (now (a .b)) (a .i) in
     let none : l .left ≡ 0 = omega arith in
-    (ended (l .inv) (ap (λ (n : ℕ). from rows n (l .node)) none ∙ settle-none window lastTick rows (l .node)), omega arith)
+    ended (l .inv) (ap (λ (n : ℕ). from rows n (l .node)) none ∙ settle-none window lastTick rows (l .node))
 
 pub settle-spec : {M : Type 1} → statement M
 settle-spec =

@@ -118,6 +118,14 @@ getD-putRows-before mb b i (r ∷ rs) j p =
     getD-putRows-before mb (putRow mb b i r) (i + rowSize mb) rs j (omega arith)
     ∙ getD-putRow-other mb b i r j (λ k q e. omega arith)
 
+pub getD-putRows-after :
+    (mb : ℕ) (b : List ℕ) (i : ℕ) (rs : List Row) (j : ℕ) → i + length rs * rowSize mb ≤ j → getD (putRows mb b i rs) j 0 ≡ getD b j 0
+unfolding putRows
+getD-putRows-after mb b i [] j p = refl
+getD-putRows-after mb b i (r ∷ rs) j p =
+    getD-putRows-after mb (putRow mb b i r) (i + rowSize mb) rs j (omega (arith, suc-mul (length rs) (rowSize mb)))
+    ∙ getD-putRow-other mb b i r j (λ k q e. omega (arith, suc-mul (length rs) (rowSize mb)))
+
 pub rows-read-back :
     (mb : ℕ) (b : List ℕ) (i : ℕ) (rs : List Row) → i + length rs * rowSize mb ≤ length b → RowsFit mb rs →
     rowsAt mb (length rs) (putRows mb b i rs) i ≡ rs

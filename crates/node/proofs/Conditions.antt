@@ -29,7 +29,6 @@ use Rattle.node.specs.Image.{Layout, nodeOf, rowsOf, stateOf, fixedHeade
 use Rattle.node.specs.Sound.{SoundSet, SoundImage}
 use Rattle.node.proofs.Images.{Fixed, fixed-facts}
 use Rattle.node.proofs.Sound.{SoundBytes, sound-bytes, bytes-sound}
-use Rattle.node.proofs.Stays.{sound-facts, sound-test}
 
 -- ---- sets
 
@@ -161,7 +160,7 @@ module _ (L : Layout) (last : ℕ) (b : List ℕ) where
   bytes-conditions : SoundBytes L last b → SoundImage L last b
   unfolding stateOf nodeOf
   bytes-conditions h =
-      let s = sound-facts (L .window) last (stateOf L b) (h .node) in
+      let s = h .node in
       let fixed = fixed-facts L b (h .fixed) in
       let roster = accepted _ _ _ _ (image-lines L b) .0 (s .roster) in
       let sets = rows-say (L .window) last (rowsOf L b) .0 (s .sets) in
@@ -204,7 +203,7 @@ module _ (L : Layout) (last : ℕ) (b : List ℕ) where
           zero₂ = zeros .1;
           zero₃ = zeros .2;
         });
-        node = sound-test (L .window) last (stateOf L b) (record {
+        node = record {
           roster = accepted _ _ _ _ (image-lines L b) .1 (h .limits, (h .no-zero, (h .no-twin, (h .own-listed, refl))));
           mode = mode-says _ .1 (h .mode);
           sent = h .sent;
@@ -213,7 +212,7 @@ module _ (L : Layout) (last : ℕ) (b : List ℕ) where
           rest =
               which-says (L .window) last (rowsOf L b) (nodeOf b) Rest (h .no-twin) .1
               (h .no-R1, h .no-R2, h .no-R3, h .no-R4, h .no-R5);
-        });
+        };
       }
 
 -- the test of a sound image passes exactly where every condition of the paper holds

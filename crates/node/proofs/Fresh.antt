@@ -13,6 +13,7 @@ use lib.Pow.{pow-pos}
 use Rattle.forms.specs.Roster.{rosterNumber}
 use Rattle.sets.specs.Ticks.{Held, empty, holds}
 use Rattle.evidence.specs.Rows.{Row, setOf}
+use Rattle.evidence.specs.Serials.{serialsIn}
 use Rattle.evidence.specs.Holders.{holders, greatest}
 use Rattle.evidence.proofs.Greatest.{greatest-none}
 use Rattle.evidence.proofs.Growth.{Kept, AllKept}
@@ -22,9 +23,10 @@ use Rattle.rules.specs.Describe.{freshNode, freshRows}
 use Rattle.rules.specs.Rules.{orJump, orWake, firstRule}
 use Rattle.rules.specs.declared.node.Rule.{Rule}
 use Rattle.rules.specs.declared.node.Rule.the-variants.{Rest, Echo, Tick, Jump, Wake}
-use Rattle.node.proofs.Stays.{Sound, roster-size}
+use Rattle.forms.proofs.Rosters.{roster-limits}
+use Rattle.node.proofs.Sound.{Sound}
 
-pub fresh-serials : (serials : List ℕ) → map (λ (row : Row). row .serial) (freshRows serials) ≡ serials
+pub fresh-serials : (serials : List ℕ) → serialsIn (freshRows serials) ≡ serials
 unfolding freshRows
 fresh-serials [] = refl
 fresh-serials (x ∷ xs) = ap (λ (l : List ℕ). x ∷ l) (fresh-serials xs)
@@ -75,5 +77,5 @@ fresh-sound w last f own serials e =
       sent = omega arith;
       tick = omega arith;
       sets = fresh-kept w last serials;
-      rest = fresh-rest w last f own serials (omega (arith, roster-size f own serials e));
+      rest = fresh-rest w last f own serials (omega (arith, roster-limits f own serials e .2));
     }

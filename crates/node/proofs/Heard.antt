@@ -32,7 +32,6 @@ use Rattle.node.specs.Runs.{Call, Deliver, Read, called}
 use Rattle.node.proofs.Images.{bytes-putClock}
 use Rattle.node.proofs.Sound.{sound-bytes}
 use Rattle.node.proofs.SoundImages.{Works, delivery-sound, deliver-done, deliver-refused}
-use Rattle.node.proofs.Stays.{sound-facts}
 use Rattle.node.proofs.Taken.{Taken, deliver-taken, WholeFrame, frame-whole}
 
 -- a kind that frames have
@@ -259,7 +258,7 @@ held-alike L last works small image other calls others serial kind bytes bytes�
     proper : soundImage L last image ≡ true → Proper (L .window) (heldUnder (rowsOf L image) serial kind)
     proper e =
         held-proper (L .window) last (rowsOf L image) serial kind
-        (sound-facts (L .window) last (stateOf L image) (sound-bytes L last image e .node) .sets)
+        (sound-bytes L last image e .node .sets)
 
     go : (t : Bool) →
         soundImage L last image ≡ t →

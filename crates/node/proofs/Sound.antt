@@ -1,4 +1,4 @@
--- What the tests of a sound image say, part by part and back; and of its roster, that every serial stands once and f is below n.
+-- A sound state and a sound image as facts: the tests say just these; and of its roster, that every serial stands once and f is below n.
 -- Assumes nothing.
 use mathlib.Core.Path.{_≡_, refl, ap, subst}
 use mathlib.Core.Bool.{Bool, true, false, cond, _&&_, and-eq-true-iff}
@@ -14,32 +14,37 @@ use Rattle.forms.specs.Roster.{count, twins, rosterNumber}
 use Rattle.forms.proofs.Meaning.{roster-says, twice-says}
 use Rattle.forms.proofs.Rosters.{Limits, roster-limits, roster-twins, count-once}
 use Rattle.fields.proofs.Words.{length-words}
-use Rattle.evidence.specs.Rows.{Row, rowSize, rowsAt, properRows}
+use Rattle.sets.specs.Sets.{maskBytes}
+use Rattle.evidence.specs.Rows.{rowSize, rowBytes, rowsAt, properRows}
+use Rattle.evidence.specs.Serials.{serialsIn}
+use Rattle.evidence.proofs.Growth.{AllKept, all-kept, all-kept-test}
 use Rattle.evidence.proofs.Layouts.{serials-of-rows}
 use Rattle.rules.specs.Delivery.{State}
-use Rattle.node.specs.Image.{Layout, layout, imageSize, nodeOf, stateOf, fixedHeader, atRest, soundState, soundImage}
+use Rattle.node.specs.Image.{Layout, layout, headerSize, imageSize, rosterIn, nodeOf, stateOf, fixedHeader, soundState, soundImage}
 use Rattle.rules.specs.Rules.{firstRule}
+use Rattle.rules.specs.declared.node.Rule.the-variants.{Rest}
+use Rattle.rules.proofs.Firing.{rest-true}
 use Rattle.node.proofs.Images.{fixed-facts}
 use Rattle.rules.specs.Steps.{RowsIn}
 
--- ---- the parts of the tests
+-- ---- a sound state and a sound image, as facts
 
-pub record SoundNode (w last : ℕ) (s : State) : Type 0 where
-  pub roster : rosterNumber (s .node .faults) (s .node .own) (map (λ (row : Row). row .serial) (s .rows)) ≡ 0
+pub record Sound (w last : ℕ) (s : State) : Type 0 where
+  pub roster : rosterNumber (s .node .faults) (s .node .own) (serialsIn (s .rows)) ≡ 0
   pub mode : s .node .mode ≤ 1
   pub sent : s .node .sent ≤ s .node .tick
   pub tick : s .node .tick ≤ last
-  pub proper : properRows w last (s .rows) ≡ true
-  pub rest : atRest (firstRule w last (s .rows) (s .node)) ≡ true
+  pub sets : AllKept w last (s .rows)
+  pub rest : firstRule w last (s .rows) (s .node) ≡ Rest
 
 pub record SoundBytes (L : Layout) (last : ℕ) (b : List ℕ) : Type 0 where
-  pub header : 32 ≤ length b
+  pub header : headerSize ≤ length b
   pub stated : field 2 b 18 ≤ length b
   pub fixed : fixedHeader L b ≡ true
-  pub node : SoundNode (L .window) last (stateOf L b)
+  pub node : Sound (L .window) last (stateOf L b)
 
 module _ (w last : ℕ) (s : State) where
-  pub sound-node : soundState w last s ≡ true → SoundNode w last s
+  pub sound-node : soundState w last s ≡ true → Sound w last s
   unfolding soundState
   sound-node e =
       let roster = and-eq-true-iff _ _ .0 e in
@@ -52,14 +57,21 @@ module _ (w last : ℕ) (s : State) where
         mode = leb-true _ _ (mode .0);
         sent = leb-true _ _ (sent .0);
         tick = leb-true _ _ (tick .0);
-        proper = proper .0;
-        rest = proper .1;
+        sets = all-kept w last (s .rows) (proper .0);
+        rest = rest-true _ (proper .1);
       }
 
-  pub node-sound : SoundNode w last s → soundState w last s ≡ true
+  pub node-sound : Sound w last s → soundState w last s ≡ true
   unfolding soundState
   node-sound h =
-      rw (eq-eqb _ 0 (h .roster), le-leb _ 1 (h .mode), le-leb _ _ (h .sent), le-leb _ last (h .tick), h .proper, h .rest)
+      rw (
+        eq-eqb _ 0 (h .roster),
+        le-leb _ 1 (h .mode),
+        le-leb _ _ (h .sent),
+        le-leb _ last (h .tick),
+        all-kept-test w last (s .rows) (h .sets),
+        h .rest,
+      )
 
 module _ (L : Layout) (last : ℕ) (b : List ℕ) where
   pub sound-bytes : soundImage L last b ≡ true → SoundBytes L last b
@@ -92,25 +104,25 @@ pub roster-lines : (f own n s : ℕ) (b : List ℕ) (i : ℕ) → rosterNumber f
 roster-lines f own n s b i z = subst (λ (m : ℕ). Limits f m) (length-words n s b i) (roster-limits f own (words n s b i) z)
 
 -- the same of rows, whose serials are such a column
-rows-roster : (f own mb n : ℕ) (b : List ℕ) (i : ℕ) → rosterNumber f own (map (λ (row : Row). row .serial) (rowsAt mb n b i)) ≡ 0 → rosterNumber f own (words n (rowSize mb) b i) ≡ 0
+rows-roster : (f own mb n : ℕ) (b : List ℕ) (i : ℕ) → rosterNumber f own (serialsIn (rowsAt mb n b i)) ≡ 0 → rosterNumber f own (words n (rowSize mb) b i) ≡ 0
 rows-roster f own mb n b i z = rw (serials-of-rows mb n b i) at z
 
-pub rows-limits : (f own mb n : ℕ) (b : List ℕ) (i : ℕ) → rosterNumber f own (map (λ (row : Row). row .serial) (rowsAt mb n b i)) ≡ 0 → Limits f n
+pub rows-limits : (f own mb n : ℕ) (b : List ℕ) (i : ℕ) → rosterNumber f own (serialsIn (rowsAt mb n b i)) ≡ 0 → Limits f n
 rows-limits f own mb n b i z = roster-lines f own n (rowSize mb) b i (rows-roster f own mb n b i z)
 
 -- ---- what a sound image gives to a delivery
 
 module _ (last : ℕ) (b : List ℕ) (h : SoundBytes layout last b) where
-  sound-roster : rosterNumber (getD b 1 0) (field 4 b 4) (words (getD b 0 0) 28 b 32) ≡ 0
+  sound-roster : rosterNumber (getD b 1 0) (field 4 b 4) (rosterIn layout b) ≡ 0
   unfolding stateOf nodeOf
-  sound-roster = rows-roster (getD b 1 0) (field 4 b 4) 8 (getD b 0 0) b 32 (h .node .roster)
+  sound-roster = rows-roster (getD b 1 0) (field 4 b 4) maskBytes (getD b 0 0) b headerSize (h .node .roster)
 
   pub sound-limits : Limits (getD b 1 0) (getD b 0 0)
-  sound-limits = roster-lines (getD b 1 0) (field 4 b 4) (getD b 0 0) 28 b 32 sound-roster
+  sound-limits = roster-lines (getD b 1 0) (field 4 b 4) (getD b 0 0) rowBytes b headerSize sound-roster
 
-  pub sound-rows : RowsIn (nodeOf b) b 32
+  pub sound-rows : RowsIn (nodeOf b) b headerSize
   unfolding nodeOf
   sound-rows = record { inside = rows-inside layout b (h .fixed) (h .stated); fewer = omega (arith, sound-limits) }
 
-  pub sound-once : (port : ℕ) → count port (words (getD b 0 0) 28 b 32) ≤ 1
-  sound-once port = count-once port (words (getD b 0 0) 28 b 32) (roster-twins (getD b 1 0) (field 4 b 4) (words (getD b 0 0) 28 b 32) sound-roster)
+  pub sound-once : (port : ℕ) → count port (rosterIn layout b) ≤ 1
+  sound-once port = count-once port (rosterIn layout b) (roster-twins (getD b 1 0) (field 4 b 4) (rosterIn layout b) sound-roster)

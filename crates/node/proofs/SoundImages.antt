@@ -26,12 +26,13 @@ use Rattle.node.specs.Calls.{Outcome, refused, outcome, bootNumber, fres
 use Rattle.rules.specs.Delivery.{State, Delivered, delivered}
 use Rattle.rules.specs.Describe.{freshNode, freshRows, bootRecords}
 use Rattle.node.specs.Image.{Layout, layout, imageSize, nodeOf, stateOf, fixedHeader, soundImage, putClock, putState}
+use Rattle.rules.specs.Clock.{Ordered, Below}
 use Rattle.rules.specs.Record.{putRecords}
 use Rattle.rules.specs.declared.node.Node.{Node}
 use Rattle.node.proofs.Fresh.{fresh-serials, fresh-length, fresh-sound}
 use Rattle.node.proofs.Images.{fixed-facts, Fine, NodeFits, state-after, fixed-after, length-after, node-after, state-read-back, fixed-of-state, length-putState}
-use Rattle.node.proofs.Sound.{SoundNode, SoundBytes, sound-bytes, bytes-sound, rows-inside}
-use Rattle.node.proofs.Stays.{Sound, Ordered, Below, sound-facts, sound-test, sound-after, ordered-after, rest-after, records-few, records-below}
+use Rattle.node.proofs.Sound.{Sound, SoundBytes, sound-bytes, bytes-sound, rows-inside}
+use Rattle.node.proofs.Stays.{sound-after, ordered-after, rest-after, records-few, records-below}
 use Rattle.node.proofs.Taken.{Started, boot-taken, Taken, deliver-taken, WholeFrame, frame-whole}
 
 -- a layout that works: its numbers fit, and its window fits a mask of its bytes
@@ -99,7 +100,7 @@ module _ (L : Layout) (last : ℕ) (works : Works L) (small : last < 2 ^ 32) (im
 
   sound : Sound (L .window) last start
   unfolding start
-  sound = sound-facts (L .window) last (stateOf L image) (before .node)
+  sound = before .node
 
   kind : ℕ
   kind = getD frame 0 0
@@ -177,9 +178,9 @@ module _ (L : Layout) (last : ℕ) (works : Works L) (small : last < 2 ^ 32) (im
   unfolding next nodeOf
   lines-next = ap (λ (p : Node). p .lines) (node-after L image (after .state .node) (after .state .rows) fits rows-fits lines-kept faults-kept own-kept rows-count room)
 
-  sound-next : SoundNode (L .window) last (stateOf L next)
+  sound-next : Sound (L .window) last (stateOf L next)
   unfolding next after
-  sound-next = subst (SoundNode (L .window) last) (sym state-delivered) (sound-test (L .window) last (after .state) (sound-after (L .window) last start port kind tick (works .wide) count sound late))
+  sound-next = subst (Sound (L .window) last) (sym state-delivered) (sound-after (L .window) last start port kind tick (works .wide) count sound late)
 
   next-sound : soundImage L last next ≡ true
   next-sound =
@@ -295,7 +296,7 @@ module _ (L : Layout) (last : ℕ) (works : Works L) (form image : List ℕ) (ou
         header = omega (arith, room-fresh, image-long);
         stated = subst (λ (n : ℕ). n ≤ length (putState L image (freshState form))) (sym (fixed-facts L (putState L image (freshState form)) image-fixed .size ∙ ap (imageSize L) image-lines)) (subst (λ (n : ℕ). imageSize L (freshState form .node .lines) ≤ n) (sym image-long) room-fresh);
         fixed = image-fixed;
-        node = subst (SoundNode (L .window) last) (sym image-state) (sound-test (L .window) last (freshState form) fresh);
+        node = subst (Sound (L .window) last) (sym image-state) fresh;
       })
 
 -- an accepted boot leaves a sound image, of the length it had, which holds the fresh node

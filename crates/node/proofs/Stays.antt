@@ -9,53 +9,16 @@ use lib.ListN.{length, length-map}
 use Rattle.forms.specs.Roster.{rosterNumber}
 use Rattle.forms.proofs.Rosters.{roster-limits}
 use Rattle.evidence.specs.Rows.{Row, credit}
-use Rattle.evidence.proofs.Growth.{AllKept, all-kept, all-kept-test, credit-kept, serials-credited}
+use Rattle.evidence.specs.Serials.{serialsIn}
+use Rattle.evidence.proofs.Growth.{credit-kept, serials-credited}
 use Rattle.rules.specs.Delivery.{State, delivered}
-use Rattle.rules.specs.Rules.{firstRule, atRest}
+use Rattle.rules.specs.Rules.{firstRule}
 use Rattle.rules.specs.declared.node.Rule.the-variants.{Rest}
 use Rattle.rules.proofs.AtRest.{delivered-rests}
-pub use Rattle.rules.proofs.Clock.{Ordered}
+use Rattle.rules.specs.Clock.{Ordered, Below}
 use Rattle.rules.proofs.Clock.{delivered-ordered}
-pub use Rattle.rules.proofs.Sent.{Below}
 use Rattle.rules.proofs.Sent.{delivered-few, delivered-below}
-use Rattle.rules.proofs.Firing.{rest-true}
-use Rattle.node.proofs.Sound.{SoundNode}
-
--- ---- a sound state, as facts
-
-pub record Sound (w last : ℕ) (s : State) : Type 0 where
-  pub roster : rosterNumber (s .node .faults) (s .node .own) (map (λ (row : Row). row .serial) (s .rows)) ≡ 0
-  pub mode : s .node .mode ≤ 1
-  pub sent : s .node .sent ≤ s .node .tick
-  pub tick : s .node .tick ≤ last
-  pub sets : AllKept w last (s .rows)
-  pub rest : firstRule w last (s .rows) (s .node) ≡ Rest
-
-pub sound-facts : (w last : ℕ) (s : State) → SoundNode w last s → Sound w last s
-sound-facts w last s h =
-    record {
-      roster = h .roster;
-      mode = h .mode;
-      sent = h .sent;
-      tick = h .tick;
-      sets = all-kept w last (s .rows) (h .proper);
-      rest = rest-true (firstRule w last (s .rows) (s .node)) (h .rest);
-    }
-
-pub sound-test : (w last : ℕ) (s : State) → Sound w last s → SoundNode w last s
-sound-test w last s h =
-    record {
-      roster = h .roster;
-      mode = h .mode;
-      sent = h .sent;
-      tick = h .tick;
-      proper = all-kept-test w last (s .rows) (h .sets);
-      rest = ap atRest (h .rest);
-    }
-
--- a roster that is taken has n ≥ 3f + 1
-pub roster-size : (f own : ℕ) (serials : List ℕ) → rosterNumber f own serials ≡ 0 → 3 * f + 1 ≤ length serials
-roster-size f own serials e = roster-limits f own serials e .2
+use Rattle.node.proofs.Sound.{Sound}
 
 -- ---- one delivery
 
@@ -79,7 +42,7 @@ module _ (w last : ℕ) (s : State) (port kind j : ℕ) (wide : 0 < w) where
         many =
             omega (
               arith,
-              roster-size (s .node .faults) (s .node .own) (map (λ (row : Row). row .serial) (s .rows)) (h .roster),
+              roster-limits (s .node .faults) (s .node .own) (serialsIn (s .rows)) (h .roster) .2,
               length-map (s .rows) (λ (row : Row). row .serial),
             )
 
@@ -98,7 +61,7 @@ module _ (w last : ℕ) (s : State) (port kind j : ℕ) (wide : 0 < w) where
         let o = ordered-after late in
         record {
           roster =
-              ap₂ (λ (f own : ℕ). rosterNumber f own (map (λ (row : Row). row .serial) (credit w port kind j (s .rows)))) (o .faults)
+              ap₂ (λ (f own : ℕ). rosterNumber f own (serialsIn (credit w port kind j (s .rows)))) (o .faults)
               (o .own)
               ∙ ap (rosterNumber (s .node .faults) (s .node .own)) (serials-credited w port kind j (s .rows)) ∙ h .roster;
           mode = o .mode;

@@ -17,6 +17,7 @@ use Rattle.fields.specs.Field.{Bytes}
 use Rattle.fields.specs.Kind.{INIT, ECHO}
 use Rattle.forms.specs.Form.{linesOf, Reordered}
 use Rattle.forms.specs.Table.{Says}
+use Rattle.rules.specs.Clock.{Ordered, Below}
 use Rattle.rules.specs.Delivery.{Delivered}
 use Rattle.sets.specs.History.{Sent, heard}
 use Rattle.sets.specs.Ticks.{Held}
@@ -41,7 +42,6 @@ use Rattle.node.proofs.Lives.{life-order}
 use Rattle.node.proofs.Numbers.{boot-says, boot-told, deliver-says, deliver-told, read-says, read-done, read-refused}
 use Rattle.node.proofs.SoundImages.{in-service, boot-sound, boot-done, boot-refused, deliver-done, deliver-refused}
 use Rattle.node.proofs.SoundImages.{delivery-sound, delivery-ordered, delivery-firings, delivery-records, delivery-below}
-use Rattle.node.proofs.Stays.{Ordered, Below}
 
 -- ---- Boot
 

@@ -9,6 +9,7 @@ use Rattle.fields.specs.Kind.{INIT, ECHO}
 use Rattle.evidence.specs.Rows.{Row, credit}
 use Rattle.evidence.proofs.Greatest.{greatest-held}
 use Rattle.evidence.proofs.Growth.{AllKept, credit-kept, held-bounded}
+use Rattle.rules.specs.Clock.{InOrder, Ordered}
 use Rattle.rules.specs.Delivery.{State, settled, delivered}
 use Rattle.rules.specs.Describe.{mostFirings}
 use Rattle.rules.specs.Rules.{firstRule, fired, settle}
@@ -16,23 +17,6 @@ use Rattle.rules.specs.declared.node.Node.{Node}
 use Rattle.rules.specs.declared.node.Rule.{Rule}
 use Rattle.rules.specs.declared.node.Rule.the-variants.{Rest, Echo, Tick, Jump, Wake}
 use Rattle.rules.proofs.Firing.{Told, told, settle-induction}
-
--- a clock in order
-pub record InOrder (last : ℕ) (p : Node) : Type 0 where
-  pub mode : p .mode ≤ 1
-  pub sent : p .sent ≤ p .tick
-  pub tick : p .tick ≤ last
-
--- q after p: the roster's side of the node stays, and its clock stays in order
-pub record Ordered (last : ℕ) (p q : Node) : Type 0 where
-  pub lines : q .lines ≡ p .lines
-  pub faults : q .faults ≡ p .faults
-  pub own : q .own ≡ p .own
-  pub mode : q .mode ≤ 1
-  pub active : p .mode ≤ q .mode
-  pub sent : q .sent ≤ q .tick
-  pub tick : q .tick ≤ last
-  pub later : p .tick ≤ q .tick
 
 module _ (w last : ℕ) (rows : List Row) (sets : AllKept w last rows) where
   pub fire-ordered : (p : Node) (r : Rule) → InOrder last p → Told w last rows p r → Ordered last p (fired p r)

@@ -9,6 +9,7 @@ use lib.Dec.{ltb, eqb}
 use Rattle.fields.specs.Kind.{ECHO}
 use Rattle.evidence.specs.Rows.{Row, credit}
 use Rattle.evidence.proofs.Growth.{AllKept, credit-kept}
+use Rattle.rules.specs.Clock.{InOrder, Below}
 use Rattle.rules.specs.Delivery.{State, answer, settled, delivered}
 use Rattle.rules.specs.Describe.{mostFirings}
 use Rattle.rules.specs.Record.{Outgoing, broadcast}
@@ -16,7 +17,7 @@ use Rattle.rules.specs.Rules.{firstRule, woken, fired, said, settle}
 use Rattle.rules.specs.declared.node.Node.{Node}
 use Rattle.rules.specs.declared.node.Rule.{Rule}
 use Rattle.rules.specs.declared.node.Rule.the-variants.{Rest, Echo, Tick, Jump, Wake}
-use Rattle.rules.proofs.Clock.{InOrder, fire-ordered, settle-ordered}
+use Rattle.rules.proofs.Clock.{fire-ordered, settle-ordered}
 use Rattle.rules.proofs.Firing.{told, one-or-none, said-few, settle-induction}
 
 -- the answer is the last echo sent, or none
@@ -53,10 +54,6 @@ delivered-few w last s port kind j =
     )
 
 -- ---- no record carries a tick above k after the delivery
-
-abbrev pub Below : ℕ → List Outgoing → Type 0
-Below k [] = Unit {0}
-Below k (r ∷ rs) = (r .tick ≤ k) × Below k rs
 
 below-more : (k m : ℕ) (rs : List Outgoing) → k ≤ m → Below k rs → Below m rs
 below-more k m [] p h = tt

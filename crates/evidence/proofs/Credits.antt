@@ -1,12 +1,14 @@
 -- A set stored in its row is the list of rows credited by serial: the store in place that the code makes, and the map over rows
--- that the definitions speak of.
+-- that the definitions speak of. So bytes of other rows stay.
 -- Assumes nothing.
 use mathlib.Core.Path.{_≡_, refl, sym, ap, ap₂, _∙_}
 use mathlib.Core.Bool.{Bool, true, false, cond}
-use mathlib.Core.List.{List, _∷_}
-use Prim.Native.Nat.{ℕ, zero, suc, _+_, _*_, _≤_}
-use native.Mathlib.Nat.{mul-suc, suc-inj}
+use mathlib.Core.List.{List, [], _∷_}
+use Prim.Native.Nat.{ℕ, zero, suc, _+_, _*_, _≤_, _<_}
+use native.Mathlib.Nat.{mul-suc, suc-mul, suc-inj}
 use native.Mathlib.Omega.{arith}
+use borrow.Author.Tests.{eqb-true}
+use lib.ListN.{getD}
 use lib.Dec.{eqb}
 use Rattle.fields.specs.Field.{field, putField, words, Bytes}
 use Rattle.fields.specs.Kind.{ECHO}
@@ -16,7 +18,8 @@ use Rattle.sets.specs.Ticks.{Held, add}
 use Rattle.evidence.specs.Holders.{oneOn, placeOf}
 use Rattle.evidence.specs.Rows.{Row, setSize, rowSize, echoPlace, initPlace, setPlace}
 use Rattle.evidence.specs.Rows.{setAt, rowAt, rowsAt, putSet, putRow, putRows, creditRow, creditOf, credit}
-use Rattle.evidence.proofs.Layouts.{bytes-putSet, getD-putSet-other, set-apart, rows-same, put-set, put-row, put-rows}
+use Rattle.evidence.proofs.Encoded.{getD-putRow-other, bytes-putRows}
+use Rattle.evidence.proofs.Layouts.{bytes-putSet, getD-putSet-other, set-apart, row-same, rows-same, put-set, put-row, put-rows}
 
 -- the list with the set of a kind credited in the row that stands at place p
 abbrev pub stored : (mb w kind j : ℕ) → List ℕ → ℕ → List ℕ
@@ -174,3 +177,38 @@ credit-at mb w serial kind j (suc n) b i k h e c =
     go false (suc p) (suc m) f c ih =
         ap (λ (l : List ℕ). putRows mb l (i + rowSize mb) (credit w serial kind j rest)) (put-row mb b i h)
         ∙ ih m (suc-inj f) (omega arith) ∙ ap (stored mb w kind j b) (places m)
+
+-- ---- bytes of other rows
+
+-- a byte stays that lies in no row of the serial. The rows are read from b and written to c, which is like b from their place on
+pub credit-elsewhere : (mb w serial kind j n : ℕ) (b c : List ℕ) (i p : ℕ) →
+    Bytes c →
+    ((q : ℕ) → i ≤ q → getD c q 0 ≡ getD b q 0) →
+    ((k : ℕ) → k < n → field 4 b (i + k * rowSize mb) ≡ serial → i + k * rowSize mb ≤ p → p < i + k * rowSize mb + rowSize mb → ⊥) →
+    getD (putRows mb c i (credit w serial kind j (rowsAt mb n b i))) p 0 ≡ getD c p 0
+unfolding putRows credit creditOf rowsAt rowAt
+credit-elsewhere mb w serial kind j zero b c i p bytes same out = refl
+credit-elsewhere mb w serial kind j (suc n) b c i p bytes same out =
+    credit-elsewhere mb w serial kind j n b (putRow mb c i row) (i + rowSize mb) p (bytes-putRows mb c i (row ∷ []) bytes)
+    (λ q r. getD-putRow-other mb c i row q (λ k l e. omega arith) ∙ same q (omega arith))
+    (λ k l e from to. out (suc k) (omega arith) (ap (field 4 b) (sym (next k)) ∙ e) (omega (arith, next k)) (omega (arith, next k)))
+    ∙ here (eqb (field 4 b i) serial) refl
+  where
+    row : Row
+    row = creditOf w serial kind j (rowAt mb b i)
+
+    next : (k : ℕ) → i + rowSize mb + k * rowSize mb ≡ i + suc k * rowSize mb
+    next k = omega (arith, suc-mul k (rowSize mb))
+
+    first : i + 0 * rowSize mb ≡ i
+    first = omega arith
+
+    here : (t : Bool) →
+        eqb (field 4 b i) serial ≡ t →
+        getD (putRow mb c i (cond t (creditRow w kind j (rowAt mb b i)) (rowAt mb b i))) p 0 ≡ getD c p 0
+    here true e =
+        let found : field 4 b (i + 0 * rowSize mb) ≡ serial = ap (field 4 b) first ∙ eqb-true (field 4 b i) serial e in
+        getD-putRow-other mb c i _ p (λ k l f. out 0 (omega arith) found (omega arith) (omega arith))
+    here false e =
+        ap (λ (r : Row). getD (putRow mb c i r) p 0) (row-same mb b c i (λ k l. sym (same (i + k) (omega arith))))
+        ∙ ap (λ (l : List ℕ). getD l p 0) (put-row mb c i bytes)

@@ -31,7 +31,8 @@ use Rattle.node.specs.Image.{Layout, rowsOf, stateOf, soundImage}
 use Rattle.node.specs.Runs.{Call, Deliver, Read, called}
 use Rattle.node.proofs.Images.{bytes-putClock}
 use Rattle.node.proofs.Sound.{sound-bytes}
-use Rattle.node.proofs.SoundImages.{Works, delivery-sound, deliver-done, deliver-refused}
+use Rattle.node.proofs.SoundImages.{Works, delivery-sound}
+use Rattle.node.proofs.Outcomes.{deliver-done, deliver-refused}
 use Rattle.node.proofs.Taken.{Taken, deliver-taken, WholeFrame, frame-whole}
 
 -- a kind that frames have

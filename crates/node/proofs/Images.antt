@@ -10,14 +10,16 @@ use borrow.Author.Tests.{eq-eqb, eqb-true, le-ltb, ltb-false, not-true}
 use lib.ListN.{length, getD, drop}
 use lib.Dec.{T, ltb, leb, eqb, lit<, lit≤}
 use Rattle.fields.specs.Field.{field, putField, Bytes}
-use Rattle.fields.proofs.Fields.{field-byte, field-same, field-lt, put-field}
+use Rattle.fields.proofs.Fields.{field-byte, field-same, field-lt, put-field, getD-put-other}
 use Rattle.evidence.specs.Rows.{Row, rowSize, rowsAt, putRows}
 use Rattle.evidence.proofs.Layouts.{rows-same, put-rows}
 use Rattle.evidence.proofs.Encoded.{RowsFit, rows-read-back, length-putRows, bytes-putRows, getD-putRows-before}
 use Rattle.rules.specs.Delivery.{State}
-use Rattle.node.specs.Image.{Layout, imageSize, nodeOf, rowsOf, stateOf, putClock, putFixed, putNode, putState, fixedHeader}
+use Rattle.node.specs.Image.{Layout, headerSize, imageSize, nodeOf, rowsOf, stateOf}
+use Rattle.node.specs.Image.{putClock, putFixed, putNode, putState, fixedHeader}
 use Rattle.rules.specs.declared.node.Node.{Node}
-use Rattle.fields.proofs.Stores.{Store, store, putStores, apart, stored-at, stores-apart, length-stores, bytes-stores, getD-stores, getD-above}
+use Rattle.fields.proofs.Stores.{Store, store, putStores, apart, stored-at, stores-apart}
+use Rattle.fields.proofs.Stores.{length-stores, bytes-stores, getD-stores, getD-above}
 
 -- a node whose numbers fit their fields
 pub record NodeFits (p : Node) : Type 0 where
@@ -40,8 +42,8 @@ clockStores p = store 1 2 (p .mode) ∷ store 4 8 (p .tick) ∷ store 4 12 (p .s
 
 nodeStores : Layout → Node → List Store
 nodeStores L p =
-    store 1 3 (L .mark) ∷ store 2 16 32 ∷ store 2 18 (imageSize L (p .lines)) ∷ store 4 20 0 ∷ store 4 24 0 ∷ store 4 28 0 ∷ store 1 0 (p .lines)
-    ∷ store 1 1 (p .faults) ∷ store 4 4 (p .own) ∷ store 1 2 (p .mode) ∷ store 4 8 (p .tick) ∷ store 4 12 (p .sent) ∷ []
+    store 1 3 (L .mark) ∷ store 2 16 headerSize ∷ store 2 18 (imageSize L (p .lines)) ∷ store 4 20 0 ∷ store 4 24 0 ∷ store 4 28 0
+    ∷ store 1 0 (p .lines) ∷ store 1 1 (p .faults) ∷ store 4 4 (p .own) ∷ store 1 2 (p .mode) ∷ store 4 8 (p .tick) ∷ store 4 12 (p .sent) ∷ []
 
 clock-stores : (b : List ℕ) (p : Node) → putClock b p ≡ putStores b (clockStores p)
 unfolding putClock clockStores putStores
@@ -62,15 +64,33 @@ bytes-putClock b p h = subst Bytes (sym (clock-stores b p)) (bytes-stores b (clo
 
 pub bytes-putState : (L : Layout) (b : List ℕ) (s : State) → Bytes b → Bytes (putState L b s)
 unfolding putState
-bytes-putState L b s h = bytes-putRows (L .masks) (putNode L b (s .node)) 32 (s .rows) (subst Bytes (sym (node-stores L b (s .node))) (bytes-stores b (nodeStores L (s .node)) h))
+bytes-putState L b s h = bytes-putRows (L .masks) (putNode L b (s .node)) headerSize (s .rows) (subst Bytes (sym (node-stores L b (s .node))) (bytes-stores b (nodeStores L (s .node)) h))
+
+-- ---- bytes that a header leaves alone
+
+-- a byte that is not of mode, k or last echo
+pub getD-putClock-other : (b : List ℕ) (p : Node) (j : ℕ) →
+    (j ≡ 2 → ⊥) →
+    ((8 ≤ j) × (j < 12) → ⊥) →
+    ((12 ≤ j) × (j < 16) → ⊥) →
+    getD (putClock b p) j 0 ≡ getD b j 0
+unfolding putClock
+getD-putClock-other b p j mode tick sent =
+    getD-put-other 4 _ 12 _ j (λ k q e. sent (omega arith)) ∙ getD-put-other 4 _ 8 _ j (λ k q e. tick (omega arith))
+    ∙ getD-put-other 1 _ 2 _ j (λ k q e. mode (omega arith))
+
+-- a byte behind the header
+pub getD-putNode-after : (L : Layout) (b : List ℕ) (p : Node) (j : ℕ) → headerSize ≤ j → getD (putNode L b p) j 0 ≡ getD b j 0
+unfolding nodeStores
+getD-putNode-after L b p j far = ap (λ (l : List ℕ). getD l j 0) (node-stores L b p) ∙ getD-above b headerSize j (nodeStores L p) tt far
 
 -- ---- a whole header reads back
 
-module _ (L : Layout) (b : List ℕ) (p : Node) (fine : Fine L) (f : NodeFits p) (room : 32 ≤ length b) where
+module _ (L : Layout) (b : List ℕ) (p : Node) (fine : Fine L) (f : NodeFits p) (room : headerSize ≤ length b) where
   ss : List Store
   ss = nodeStores L p
 
-  one : (k : ℕ) → k < length ss → getD ss k (store 0 0 0) .width ≡ 1 → T (apart (getD ss k (store 0 0 0) .width) (getD ss k (store 0 0 0) .place) (drop (suc k) ss)) → getD ss k (store 0 0 0) .place + getD ss k (store 0 0 0) .width ≤ 32 → getD ss k (store 0 0 0) .value < 256 ^ getD ss k (store 0 0 0) .width → getD (putStores b ss) (getD ss k (store 0 0 0) .place) 0 ≡ getD ss k (store 0 0 0) .value
+  one : (k : ℕ) → k < length ss → getD ss k (store 0 0 0) .width ≡ 1 → T (apart (getD ss k (store 0 0 0) .width) (getD ss k (store 0 0 0) .place) (drop (suc k) ss)) → getD ss k (store 0 0 0) .place + getD ss k (store 0 0 0) .width ≤ headerSize → getD ss k (store 0 0 0) .value < 256 ^ getD ss k (store 0 0 0) .width → getD (putStores b ss) (getD ss k (store 0 0 0) .place) 0 ≡ getD ss k (store 0 0 0) .value
   one k q e t r v =
       sym (field-byte (putStores b ss) (getD ss k (store 0 0 0) .place)) ∙ ap (λ (w : ℕ). field w (putStores b ss) (getD ss k (store 0 0 0) .place)) (sym e)
       ∙ stored-at b ss k q t (omega arith) v
@@ -100,7 +120,7 @@ module _ (L : Layout) (b : List ℕ) (p : Node) (fine : Fine L) (f : NodeFits p)
   unfolding fixedHeader nodeStores ss
   fixed-back =
       both (eq-eqb _ _ (one 0 (lit< tt) refl tt (lit≤ tt) (fine .mark)))
-      (both (eq-eqb _ 32 (stored-at b ss 1 (lit< tt) tt (omega arith) (lit< tt)))
+      (both (eq-eqb _ headerSize (stored-at b ss 1 (lit< tt) tt (omega arith) (lit< tt)))
       (both (eq-eqb _ _ (stored-at b ss 2 (lit< tt) tt (omega arith) (fine .size (p .lines) (f .lines)) ∙ ap (imageSize L) (sym lines-back)))
       (both (eq-eqb _ 0 (stored-at b ss 3 (lit< tt) tt (omega arith) (lit< tt)))
       (both (eq-eqb _ 0 (stored-at b ss 4 (lit< tt) tt (omega arith) (lit< tt))) (eq-eqb _ 0 (stored-at b ss 5 (lit< tt) tt (omega arith) (lit< tt)))))))
@@ -112,10 +132,10 @@ module _ (L : Layout) (b : List ℕ) (p : Node) (fine : Fine L) (f : NodeFits p)
   unfolding ss
   fixed-read-back = ap (fixedHeader L) (node-stores L b p) ∙ fixed-back
 
--- ---- what the front 32 bytes decide
+-- ---- what the front headerSize bytes decide
 
-module _ (L : Layout) (b c : List ℕ) (same : (j : ℕ) → j < 32 → getD b j 0 ≡ getD c j 0) where
-  at : (w i : ℕ) → i + w ≤ 32 → field w b i ≡ field w c i
+module _ (L : Layout) (b c : List ℕ) (same : (j : ℕ) → j < headerSize → getD b j 0 ≡ getD c j 0) where
+  at : (w i : ℕ) → i + w ≤ headerSize → field w b i ≡ field w c i
   at w i p = field-same w b c i i (λ k q. same (i + k) (omega arith))
 
   pub front-node : nodeOf b ≡ nodeOf c
@@ -133,17 +153,17 @@ module _ (L : Layout) (b c : List ℕ) (same : (j : ℕ) → j < 32 → getD b j
 
   pub front-fixed : fixedHeader L b ≡ fixedHeader L c
   unfolding fixedHeader
-  front-fixed = λ d. eqb (same 3 (lit< tt) d) (L .mark) && (eqb (at 2 16 (lit≤ tt) d) 32 && (eqb (at 2 18 (lit≤ tt) d) (imageSize L (same 0 (lit< tt) d)) && (eqb (at 4 20 (lit≤ tt) d) 0 && (eqb (at 4 24 (lit≤ tt) d) 0 && eqb (at 4 28 (lit≤ tt) d) 0))))
+  front-fixed = λ d. eqb (same 3 (lit< tt) d) (L .mark) && (eqb (at 2 16 (lit≤ tt) d) headerSize && (eqb (at 2 18 (lit≤ tt) d) (imageSize L (same 0 (lit< tt) d)) && (eqb (at 4 20 (lit≤ tt) d) 0 && (eqb (at 4 24 (lit≤ tt) d) 0 && eqb (at 4 28 (lit≤ tt) d) 0))))
 
 -- ---- a whole image reads back
 
 module _ (L : Layout) (b : List ℕ) (s : State) (fine : Fine L) (f : NodeFits (s .node)) (g : RowsFit (L .masks) (s .rows)) (count : length (s .rows) ≡ s .node .lines) (room : imageSize L (s .node .lines) ≤ length b) where
-  head : 32 ≤ length b
+  head : headerSize ≤ length b
   head = omega arith
 
-  front : (j : ℕ) → j < 32 → getD (putState L b s) j 0 ≡ getD (putNode L b (s .node)) j 0
+  front : (j : ℕ) → j < headerSize → getD (putState L b s) j 0 ≡ getD (putNode L b (s .node)) j 0
   unfolding putState
-  front j p = getD-putRows-before (L .masks) (putNode L b (s .node)) 32 (s .rows) j p
+  front j p = getD-putRows-before (L .masks) (putNode L b (s .node)) headerSize (s .rows) j p
 
   node-of-state : nodeOf (putState L b s) ≡ s .node
   node-of-state = front-node L (putState L b s) (putNode L b (s .node)) front ∙ node-read-back L b (s .node) fine f head
@@ -151,14 +171,14 @@ module _ (L : Layout) (b : List ℕ) (s : State) (fine : Fine L) (f : NodeFits (
   rows-of-state : rowsOf L (putState L b s) ≡ s .rows
   unfolding putState nodeOf
   rows-of-state =
-      ap (λ (n : ℕ). rowsAt (L .masks) n (putRows (L .masks) (putNode L b (s .node)) 32 (s .rows)) 32) (ap (λ (p : Node). p .lines) lines-of ∙ sym count)
-      ∙ rows-read-back (L .masks) (putNode L b (s .node)) 32 (s .rows) (fits room) g
+      ap (λ (n : ℕ). rowsAt (L .masks) n (putRows (L .masks) (putNode L b (s .node)) headerSize (s .rows)) headerSize) (ap (λ (p : Node). p .lines) lines-of ∙ sym count)
+      ∙ rows-read-back (L .masks) (putNode L b (s .node)) headerSize (s .rows) (fits room) g
     where
-      lines-of : nodeOf (putRows (L .masks) (putNode L b (s .node)) 32 (s .rows)) ≡ s .node
+      lines-of : nodeOf (putRows (L .masks) (putNode L b (s .node)) headerSize (s .rows)) ≡ s .node
       lines-of = node-of-state
 
-      fits : imageSize L (s .node .lines) ≤ length b → 32 + length (s .rows) * rowSize (L .masks) ≤ length (putNode L b (s .node))
-      fits r = subst (λ (n : ℕ). 32 + n * rowSize (L .masks) ≤ length (putNode L b (s .node))) (sym count) (subst (λ (k : ℕ). 32 + s .node .lines * rowSize (L .masks) ≤ k) (sym (length-putNode L b (s .node))) r)
+      fits : imageSize L (s .node .lines) ≤ length b → headerSize + length (s .rows) * rowSize (L .masks) ≤ length (putNode L b (s .node))
+      fits r = subst (λ (n : ℕ). headerSize + n * rowSize (L .masks) ≤ length (putNode L b (s .node))) (sym count) (subst (λ (k : ℕ). headerSize + s .node .lines * rowSize (L .masks) ≤ k) (sym (length-putNode L b (s .node))) r)
 
   -- decoding after encoding
   pub state-read-back : stateOf L (putState L b s) ≡ s
@@ -170,41 +190,41 @@ module _ (L : Layout) (b : List ℕ) (s : State) (fine : Fine L) (f : NodeFits (
 
   pub length-putState : length (putState L b s) ≡ length b
   unfolding putState
-  length-putState = length-putRows (L .masks) (putNode L b (s .node)) 32 (s .rows) ∙ length-putNode L b (s .node)
+  length-putState = length-putRows (L .masks) (putNode L b (s .node)) headerSize (s .rows) ∙ length-putNode L b (s .node)
 
 -- ---- what a delivery writes reads back
 
 module _ (L : Layout) (b : List ℕ) (p : Node) (rows : List Row) (f : NodeFits p) (g : RowsFit (L .masks) rows) (lines : p .lines ≡ getD b 0 0) (faults : p .faults ≡ getD b 1 0) (own : p .own ≡ field 4 b 4) (count : length rows ≡ p .lines) (room : imageSize L (p .lines) ≤ length b) where
   inner : List ℕ
-  inner = putRows (L .masks) b 32 rows
+  inner = putRows (L .masks) b headerSize rows
 
   whole : List ℕ
   whole = putClock inner p
 
-  inner-front : (j : ℕ) → j < 32 → getD inner j 0 ≡ getD b j 0
+  inner-front : (j : ℕ) → j < headerSize → getD inner j 0 ≡ getD b j 0
   unfolding inner
-  inner-front j q = getD-putRows-before (L .masks) b 32 rows j q
+  inner-front j q = getD-putRows-before (L .masks) b headerSize rows j q
 
-  long : 32 ≤ length inner
+  long : headerSize ≤ length inner
   unfolding inner
-  long = omega (arith, length-putRows (L .masks) b 32 rows)
+  long = omega (arith, length-putRows (L .masks) b headerSize rows)
 
   -- a field of the front that the clock does not touch
-  kept-field : (w i : ℕ) → T (apart w i (clockStores p)) → i + w ≤ 32 → field w whole i ≡ field w b i
+  kept-field : (w i : ℕ) → T (apart w i (clockStores p)) → i + w ≤ headerSize → field w whole i ≡ field w b i
   unfolding whole
   kept-field w i t q =
       ap (λ (l : List ℕ). field w l i) (clock-stores inner p) ∙ stores-apart inner w i (clockStores p) t ∙ field-same w inner b i i (λ k r. inner-front (i + k) (omega arith))
 
-  kept-byte : (i : ℕ) → T (apart 1 i (clockStores p)) → i < 32 → getD whole i 0 ≡ getD b i 0
+  kept-byte : (i : ℕ) → T (apart 1 i (clockStores p)) → i < headerSize → getD whole i 0 ≡ getD b i 0
   kept-byte i t q = sym (field-byte whole i) ∙ kept-field 1 i t (omega arith) ∙ field-byte b i
 
-  clock-field : (k : ℕ) → k < length (clockStores p) → T (apart (getD (clockStores p) k (store 0 0 0) .width) (getD (clockStores p) k (store 0 0 0) .place) (drop (suc k) (clockStores p))) → getD (clockStores p) k (store 0 0 0) .place + getD (clockStores p) k (store 0 0 0) .width ≤ 32 → getD (clockStores p) k (store 0 0 0) .value < 256 ^ getD (clockStores p) k (store 0 0 0) .width → field (getD (clockStores p) k (store 0 0 0) .width) whole (getD (clockStores p) k (store 0 0 0) .place) ≡ getD (clockStores p) k (store 0 0 0) .value
+  clock-field : (k : ℕ) → k < length (clockStores p) → T (apart (getD (clockStores p) k (store 0 0 0) .width) (getD (clockStores p) k (store 0 0 0) .place) (drop (suc k) (clockStores p))) → getD (clockStores p) k (store 0 0 0) .place + getD (clockStores p) k (store 0 0 0) .width ≤ headerSize → getD (clockStores p) k (store 0 0 0) .value < 256 ^ getD (clockStores p) k (store 0 0 0) .width → field (getD (clockStores p) k (store 0 0 0) .width) whole (getD (clockStores p) k (store 0 0 0) .place) ≡ getD (clockStores p) k (store 0 0 0) .value
   unfolding whole
   clock-field k q t r v =
       ap (λ (l : List ℕ). field (getD (clockStores p) k (store 0 0 0) .width) l (getD (clockStores p) k (store 0 0 0) .place)) (clock-stores inner p)
       ∙ stored-at inner (clockStores p) k q t (omega (arith, long)) v
 
-  pub node-after : nodeOf (putClock (putRows (L .masks) b 32 rows) p) ≡ p
+  pub node-after : nodeOf (putClock (putRows (L .masks) b headerSize rows) p) ≡ p
   unfolding nodeOf clockStores whole inner
   node-after =
       λ d.
@@ -217,28 +237,28 @@ module _ (L : Layout) (b : List ℕ) (p : Node) (rows : List Row) (f : NodeFits 
         sent = clock-field 2 (lit< tt) tt (lit≤ tt) (f .sent) d;
       }
 
-  pub rows-after : rowsAt (L .masks) (p .lines) (putClock (putRows (L .masks) b 32 rows) p) 32 ≡ rows
+  pub rows-after : rowsAt (L .masks) (p .lines) (putClock (putRows (L .masks) b headerSize rows) p) headerSize ≡ rows
   unfolding clockStores
   rows-after =
-      rows-same (L .masks) (p .lines) (putClock (putRows (L .masks) b 32 rows) p) (putRows (L .masks) b 32 rows) 32 (λ k q. ap (λ (l : List ℕ). getD l k 0) (clock-stores (putRows (L .masks) b 32 rows) p) ∙ getD-above (putRows (L .masks) b 32 rows) 32 k (clockStores p) tt q)
-      ∙ ap (λ (n : ℕ). rowsAt (L .masks) n (putRows (L .masks) b 32 rows) 32) (sym count)
-      ∙ rows-read-back (L .masks) b 32 rows (subst (λ (n : ℕ). 32 + n * rowSize (L .masks) ≤ length b) (sym count) room) g
+      rows-same (L .masks) (p .lines) (putClock (putRows (L .masks) b headerSize rows) p) (putRows (L .masks) b headerSize rows) headerSize (λ k q. ap (λ (l : List ℕ). getD l k 0) (clock-stores (putRows (L .masks) b headerSize rows) p) ∙ getD-above (putRows (L .masks) b headerSize rows) headerSize k (clockStores p) tt q)
+      ∙ ap (λ (n : ℕ). rowsAt (L .masks) n (putRows (L .masks) b headerSize rows) headerSize) (sym count)
+      ∙ rows-read-back (L .masks) b headerSize rows (subst (λ (n : ℕ). headerSize + n * rowSize (L .masks) ≤ length b) (sym count) room) g
 
-  pub state-after : stateOf L (putClock (putRows (L .masks) b 32 rows) p) ≡ record { node = p; rows = rows }
+  pub state-after : stateOf L (putClock (putRows (L .masks) b headerSize rows) p) ≡ record { node = p; rows = rows }
   unfolding stateOf nodeOf
-  state-after = λ d. record { node = node-after d; rows = (ap (λ (n : ℕ). rowsAt (L .masks) n (putClock (putRows (L .masks) b 32 rows) p) 32) (ap (λ (q : Node). q .lines) lines-node) ∙ rows-after) d }
+  state-after = λ d. record { node = node-after d; rows = (ap (λ (n : ℕ). rowsAt (L .masks) n (putClock (putRows (L .masks) b headerSize rows) p) headerSize) (ap (λ (q : Node). q .lines) lines-node) ∙ rows-after) d }
     where
-      lines-node : nodeOf (putClock (putRows (L .masks) b 32 rows) p) ≡ p
+      lines-node : nodeOf (putClock (putRows (L .masks) b headerSize rows) p) ≡ p
       lines-node = node-after
 
-  pub fixed-after : fixedHeader L (putClock (putRows (L .masks) b 32 rows) p) ≡ fixedHeader L b
+  pub fixed-after : fixedHeader L (putClock (putRows (L .masks) b headerSize rows) p) ≡ fixedHeader L b
   unfolding fixedHeader whole inner clockStores
   fixed-after =
       λ d.
-      eqb (kept-byte 3 tt (lit< tt) d) (L .mark) && (eqb (kept-field 2 16 tt (lit≤ tt) d) 32 && (eqb (kept-field 2 18 tt (lit≤ tt) d) (imageSize L (kept-byte 0 tt (lit< tt) d)) && (eqb (kept-field 4 20 tt (lit≤ tt) d) 0 && (eqb (kept-field 4 24 tt (lit≤ tt) d) 0 && eqb (kept-field 4 28 tt (lit≤ tt) d) 0))))
+      eqb (kept-byte 3 tt (lit< tt) d) (L .mark) && (eqb (kept-field 2 16 tt (lit≤ tt) d) headerSize && (eqb (kept-field 2 18 tt (lit≤ tt) d) (imageSize L (kept-byte 0 tt (lit< tt) d)) && (eqb (kept-field 4 20 tt (lit≤ tt) d) 0 && (eqb (kept-field 4 24 tt (lit≤ tt) d) 0 && eqb (kept-field 4 28 tt (lit≤ tt) d) 0))))
 
-  pub length-after : length (putClock (putRows (L .masks) b 32 rows) p) ≡ length b
-  length-after = length-putClock (putRows (L .masks) b 32 rows) p ∙ length-putRows (L .masks) b 32 rows
+  pub length-after : length (putClock (putRows (L .masks) b headerSize rows) p) ≡ length b
+  length-after = length-putClock (putRows (L .masks) b headerSize rows) p ∙ length-putRows (L .masks) b headerSize rows
 
 -- ---- encoding after decoding
 
@@ -256,7 +276,7 @@ stores-same b (s ∷ ss) h q =
 -- the fixed values of a header, as facts
 pub record Fixed (L : Layout) (b : List ℕ) : Type 0 where
   pub mark : getD b 3 0 ≡ L .mark
-  pub offset : field 2 b 16 ≡ 32
+  pub offset : field 2 b 16 ≡ headerSize
   pub size : field 2 b 18 ≡ imageSize L (getD b 0 0)
   pub zero₁ : field 4 b 20 ≡ 0
   pub zero₂ : field 4 b 24 ≡ 0
@@ -275,8 +295,8 @@ fixed-facts L b e =
 pub state-again : (L : Layout) (b : List ℕ) → Bytes b → fixedHeader L b ≡ true → putState L b (stateOf L b) ≡ b
 unfolding putState stateOf nodeStores nodeOf
 state-again L b h e =
-    ap (λ (l : List ℕ). putRows (L .masks) l 32 (rowsOf L b)) (node-stores L b (nodeOf b) ∙ stores-same b (nodeStores L (nodeOf b)) h (standing (fixed-facts L b e)))
-    ∙ put-rows (L .masks) (getD b 0 0) b 32 h
+    ap (λ (l : List ℕ). putRows (L .masks) l headerSize (rowsOf L b)) (node-stores L b (nodeOf b) ∙ stores-same b (nodeStores L (nodeOf b)) h (standing (fixed-facts L b e)))
+    ∙ put-rows (L .masks) (getD b 0 0) b headerSize h
   where
     standing : Fixed L b → Stand b (nodeStores L (nodeOf b))
     standing f = (

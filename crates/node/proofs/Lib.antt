@@ -7,6 +7,7 @@ pub mod Kept
 pub mod Lives
 pub mod Numbers
 pub mod Orderly
+pub mod Outcomes
 pub mod Sound
 pub mod SoundImages
 pub mod Stays

@@ -31,7 +31,8 @@ use Rattle.rules.specs.declared.node.Node.{Node}
 use Rattle.node.proofs.Images.{bytes-putClock, bytes-putState}
 use Rattle.node.proofs.Orderly.{delivery-order, under-order}
 use Rattle.node.proofs.Taken.{boot-taken}
-use Rattle.node.proofs.SoundImages.{Works, delivery-sound, deliver-done, deliver-refused, boot-sound, boot-done, boot-refused}
+use Rattle.node.proofs.SoundImages.{Works, delivery-sound, boot-sound}
+use Rattle.node.proofs.Outcomes.{deliver-done, deliver-refused, boot-done, boot-refused}
 
 -- ---- two images that a truck cannot tell apart
 

@@ -47,38 +47,6 @@ pub record Works (L : Layout) : Type 0 where
 pub in-service : Works layout
 in-service = record { fine = record { mark = lit< tt; size = λ n p. omega arith }; bits = 64; masks = refl; wide = lit< tt; narrow = lit≤ tt }
 
--- ---- what a number decides
-
-decided : (number : ℕ) (image out : List ℕ) (done : Outcome) → number ≡ 0 → outcome number image out done ≡ done
-decided number image out done e = ap (λ (t : Bool). cond t done (refused number image out)) (eq-eqb number 0 e)
-
-undone : (number : ℕ) (image out : List ℕ) (done : Outcome) → (number ≡ 0 → ⊥) → outcome number image out done ≡ refused number image out
-undone number image out done n = ap (λ (t : Bool). cond t done (refused number image out)) (ne-eqb number 0 n)
-
-module _ (L : Layout) (last : ℕ) (image : List ℕ) (port : ℕ) (frame out : List ℕ) where
-  abbrev number : ℕ
-  number = deliverNumber L last image port frame (length out)
-
-  pub deliver-done : number ≡ 0 → deliverOutcome L last image port frame out ≡ deliverDone L last image port frame out
-  unfolding deliverOutcome
-  deliver-done e = decided number image out _ e
-
-  pub deliver-refused : (number ≡ 0 → ⊥) → deliverOutcome L last image port frame out ≡ refused number image out
-  unfolding deliverOutcome
-  deliver-refused n = undone number image out _ n
-
-module _ (L : Layout) (form image out : List ℕ) where
-  abbrev bootGiven : ℕ
-  bootGiven = bootNumber L form (length image) (length out)
-
-  pub boot-done : bootGiven ≡ 0 → booted L form image out ≡ bootDone L form image out
-  unfolding booted
-  boot-done e = decided bootGiven image out _ e
-
-  pub boot-refused : (bootGiven ≡ 0 → ⊥) → booted L form image out ≡ refused bootGiven image out
-  unfolding booted
-  boot-refused n = undone bootGiven image out _ n
-
 -- ---- an accepted delivery
 
 module _ (L : Layout) (last : ℕ) (works : Works L) (small : last < 2 ^ 32) (image : List ℕ) (port : ℕ) (frame : List ℕ) (outLength : ℕ) (bytes : Bytes image) (ok : deliverNumber L last image port frame outLength ≡ 0) where

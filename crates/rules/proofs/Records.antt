@@ -1,13 +1,13 @@
--- Laws of records in bytes: they keep the length, and records behind records are one list of records; so what joints send adds up.
+-- Laws of records in bytes: they keep the length and the bytes behind them, and records behind records are one list of records; so what joints send adds up.
 -- Assumes nothing.
 use mathlib.Core.Path.{_≡_, refl, sym, ap, _∙_}
 use mathlib.Core.List.{List, [], _∷_, _++_}
-use Prim.Native.Nat.{ℕ, suc, _+_, _*_}
+use Prim.Native.Nat.{ℕ, suc, _+_, _*_, _≤_}
 use native.Mathlib.Nat.{add-zero}
 use native.Mathlib.Omega.{arith}
-use lib.ListN.{length, length-append}
+use lib.ListN.{length, getD, length-append}
 use Rattle.forms.specs.Frame.{putFrame}
-use Rattle.fields.proofs.Fields.{length-put}
+use Rattle.fields.proofs.Fields.{length-put, getD-put-other}
 use Rattle.rules.specs.Record.{Outgoing, recordSize, putRecord, putRecords}
 use Rattle.rules.specs.Steps.{SentAs}
 
@@ -19,6 +19,24 @@ pub length-putRecords : (out : List ℕ) (i : ℕ) (rs : List Outgoing) → leng
 unfolding putRecords
 length-putRecords out i [] = refl
 length-putRecords out i (r ∷ rs) = length-putRecords (putRecord out i r) (i + recordSize) rs ∙ length-putRecord out i r
+
+-- a byte behind a record
+getD-putRecord-after : (out : List ℕ) (i : ℕ) (r : Outgoing) (j : ℕ) →
+    i + recordSize ≤ j →
+    getD (putRecord out i r) j 0 ≡ getD out j 0
+unfolding putRecord putFrame
+getD-putRecord-after out i r j p =
+    getD-put-other 4 _ (i + 4 + 4) _ j (λ k q e. omega arith) ∙ getD-put-other 3 _ (i + 4 + 1) _ j (λ k q e. omega arith)
+    ∙ getD-put-other 1 _ (i + 4) _ j (λ k q e. omega arith) ∙ getD-put-other 4 _ i _ j (λ k q e. omega arith)
+
+-- a byte behind the records
+pub getD-putRecords-after : (out : List ℕ) (i : ℕ) (rs : List Outgoing) (j : ℕ) →
+    i + recordSize * length rs ≤ j →
+    getD (putRecords out i rs) j 0 ≡ getD out j 0
+unfolding putRecords
+getD-putRecords-after out i [] j p = refl
+getD-putRecords-after out i (r ∷ rs) j p =
+    getD-putRecords-after (putRecord out i r) (i + recordSize) rs j (omega arith) ∙ getD-putRecord-after out i r j (omega arith)
 
 pub put-records-none : (out : List ℕ) (i : ℕ) → putRecords out i [] ≡ out
 unfolding putRecords

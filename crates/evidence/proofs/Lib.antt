@@ -10,3 +10,4 @@ pub mod Layouts
 pub mod Orders
 pub mod Serials
 pub mod Single
+pub mod Under

@@ -5,7 +5,7 @@ use Prim.Native.Nat.{ℕ, zero, suc, _+_, _-_, max}
 use mathlib.Core.List.{List, [], _∷_}
 use mathlib.Core.Bool.{Bool, cond, _&&_}
 use lib.Dec.{leb, eqb}
-use Rattle.sets.specs.Ticks.{Held, holds}
+use Rattle.sets.specs.Ticks.{Held, empty, holds}
 use Rattle.evidence.specs.Rows.{Row, setOf}
 use Rattle.evidence.specs.declared.rows.Found.{Found}
 use Rattle.evidence.specs.declared.rows.Found.the-variants.{At, Nowhere}
@@ -14,6 +14,11 @@ use Rattle.evidence.specs.declared.rows.Found.the-variants.{At, Nowhere}
 unfoldable pub holders : ℕ → ℕ → ℕ → List Row → ℕ
 holders w kind t [] = 0
 holders w kind t (row ∷ rows) = holds w (setOf kind row) t + holders w kind t rows
+
+-- the set of a kind held under a serial: that of the row with this serial, of which a sound image has one at most; empty where none has it
+unfoldable pub heldUnder : List Row → ℕ → ℕ → Held
+heldUnder [] serial kind = empty
+heldUnder (row ∷ rows) serial kind = cond (eqb (row .serial) serial) (setOf kind row) (heldUnder rows serial kind)
 
 -- ---- the greatest tick held by m; as tick + 1, with 0 for none, so that no tick has to stand for "none"
 

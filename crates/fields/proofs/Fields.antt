@@ -2,6 +2,7 @@
 -- back. Callers cite these and never look into `field` or `putField`.
 -- Assumes nothing.
 use mathlib.Core.Path.{_≡_, refl, sym, ap, ap₂, _∙_, subst}
+use mathlib.Core.Logic.{_↔_}
 use Prim.Native.Nat.{ℕ, zero, suc, _+_, _-_, _*_, _/_, _%_, _^_, _≤_, _<_}
 use native.Mathlib.Nat.{add-zero, add-suc, add-assoc, mul-assoc, pow-suc, pow-succ', one-le-pow}
 use native.Mathlib.Nat.{div-one, div-div-eq-div-mul, div-lt-iff-lt-mul}
@@ -53,6 +54,18 @@ field-byte b i = rw add-zero (omega arith)
 -- a field in the front of a list
 pub field-take : (w n : ℕ) (b : List ℕ) (i : ℕ) → i + w ≤ n → field w (take n b) i ≡ field w b i
 field-take w n b i p = field-same w (take n b) b i i (λ k q. getD-take n b (i + k) 0 (omega arith))
+
+-- a number is 0 exactly where each of its bytes is
+pub field-zero : (w : ℕ) (b : List ℕ) (i : ℕ) → (field w b i ≡ 0) ↔ ((k : ℕ) → k < w → getD b (i + k) 0 ≡ 0)
+unfolding field
+field-zero zero b i = (λ e k p. absurd (omega arith), λ h. refl)
+field-zero (suc w) b i = (
+  λ e k p. elim (ℕ-discrete k w) [
+    | yes f ↦ ap (λ (n : ℕ). getD b (i + n) 0) f ∙ omega arith
+    | no n ↦ field-zero w b i .0 (omega arith) k (omega arith)
+  ],
+  λ h. omega (arith, field-zero w b i .1 (λ k p. h k (omega arith)), h w (omega arith)),
+)
 
 -- ---- what a store leaves
 

@@ -6,54 +6,30 @@ use mathlib.Core.Logic.{_↔_, inl, inr, ⊎-elim}
 use mathlib.Core.Bool.{true, not}
 use mathlib.Core.List.{List, [], _∷_, List·Memᴰ, List·Memᴰ·head, List·Memᴰ·tail, List·Memᴰ·cases-cons, List·Memᴰ·not-nil}
 use Prim.Native.Nat.{ℕ, zero, suc, _+_, _-_, _%_, _^_, _≤_, _<_}
-use native.Mathlib.Nat.{mod-lt, mod-le, pow-suc}
 use native.Mathlib.Decide.{decLt, ℕ-discrete}
 use native.Mathlib.Omega.{arith}
 use borrow.Author.Tests.{eq-eqb}
 use lib.ListN.{length, getD}
-use lib.Pow.{pow-pos}
 use Rattle.fields.specs.Field.{field}
+use Rattle.fields.proofs.Fields.{field-zero}
 use Rattle.fields.proofs.Words.{length-words}
 use Rattle.forms.specs.Roster.{rosterNumber}
 use Rattle.forms.specs.Table.{_or_, Given, rosterChecks}
 use Rattle.forms.proofs.Meaning.{Decides, opposite, roster-says}
 use Rattle.sets.specs.Ticks.{Held, bit}
-use Rattle.sets.proofs.Masks.{bit-zero, bit-le, bit-out, bits-same, cut-at}
+use Rattle.sets.proofs.Masks.{bit-zero, bits-below}
 use Rattle.evidence.specs.Rows.{Row, rowSize}
 use Rattle.evidence.specs.Serials.{serialsIn}
 use Rattle.evidence.proofs.Growth.{Kept, AllKept}
 use Rattle.evidence.proofs.Layouts.{serials-of-rows}
 use Rattle.rules.specs.declared.node.Rule.the-variants.{Rest}
 use Rattle.rules.proofs.Which.{which-says}
-use Rattle.node.specs.Image.{Layout, nodeOf, rowsOf, stateOf, fixedHeader, soundImage}
+use Rattle.node.specs.Image.{Layout, headerSize, nodeOf, rowsOf, stateOf, fixedHeader, soundImage}
 use Rattle.node.specs.Sound.{SoundSet, SoundImage}
 use Rattle.node.proofs.Images.{Fixed, fixed-facts}
 use Rattle.node.proofs.Sound.{SoundBytes, sound-bytes, bytes-sound}
 
 -- ---- sets
-
--- n has n bits at most
-under-power : (n : ℕ) → n < 2 ^ n
-under-power zero = omega arith
-under-power (suc n) = omega (arith, under-power n, pow-suc 2 n)
-
--- a mask is below 2 ^ k exactly where each bit that is set is one of the lowest k
-bits-below : (m k : ℕ) → (m < 2 ^ k) ↔ ((i : ℕ) → bit m i ≡ 1 → i < k)
-bits-below m k = (
-  λ p i e. elim (decLt i k) [ yes q ↦ q | no q ↦ absurd (omega (arith, bit-out m k i p (omega arith))) ],
-  λ h. subst (λ (n : ℕ). n < 2 ^ k) (cut h) (mod-lt m (pow-pos k)),
-)
-  where
-    cut : ((i : ℕ) → bit m i ≡ 1 → i < k) → m % 2 ^ k ≡ m
-    cut h =
-        bits-same m (m % 2 ^ k) m (omega (arith, mod-le m (2 ^ k), under-power m)) (under-power m)
-        (λ i q. elim (decLt i k) [
-          | yes p ↦ cut-at k m i p
-          | no p ↦ bit-out (m % 2 ^ k) k i (mod-lt m (pow-pos k)) (omega arith) ∙ sym (unset i p)
-        ])
-      where
-        unset : (i : ℕ) → (i < k → ⊥) → bit m i ≡ 0
-        unset i p = elim (ℕ-discrete (bit m i) 1) [ yes e ↦ absurd (p (h i e)) | no n ↦ omega (arith, bit-le m i) ]
 
 set-says : (w last : ℕ) (s : Held) → Kept w last s ↔ SoundSet w last s
 set-says w last s = (
@@ -93,21 +69,9 @@ rows-say w last (row ∷ rows) = (
 
 -- ---- the fixed header values
 
--- a number is 0 exactly where each of its bytes is
-field-zero : (w : ℕ) (b : List ℕ) (i : ℕ) → (field w b i ≡ 0) ↔ ((k : ℕ) → k < w → getD b (i + k) 0 ≡ 0)
-unfolding field
-field-zero zero b i = (λ e k p. absurd (omega arith), λ h. refl)
-field-zero (suc w) b i = (
-  λ e k p. elim (ℕ-discrete k w) [
-    | yes f ↦ ap (λ (n : ℕ). getD b (i + n) 0) f ∙ omega arith
-    | no n ↦ field-zero w b i .0 (omega arith) k (omega arith)
-  ],
-  λ h. omega (arith, field-zero w b i .1 (λ k p. h k (omega arith)), h w (omega arith)),
-)
-
 -- the zeros of a header, as three words
 zeros-say : (b : List ℕ) →
-    ((field 4 b 20 ≡ 0) × (field 4 b 24 ≡ 0) × (field 4 b 28 ≡ 0)) ↔ ((i : ℕ) → 20 ≤ i → i < 32 → getD b i 0 ≡ 0)
+    ((field 4 b 20 ≡ 0) × (field 4 b 24 ≡ 0) × (field 4 b 28 ≡ 0)) ↔ ((i : ℕ) → 20 ≤ i → i < headerSize → getD b i 0 ≡ 0)
 zeros-say b = (
   λ z i p q. elim (decLt i 24) [
     | yes l ↦ at 20 i (z .0) p l
@@ -122,7 +86,7 @@ zeros-say b = (
         whole : (a i : ℕ) → a ≤ i → a + (i - a) ≡ i
         whole a i p = omega arith
 
-    word : (a : ℕ) → ((i : ℕ) → 20 ≤ i → i < 32 → getD b i 0 ≡ 0) → 20 ≤ a → a ≤ 28 → field 4 b a ≡ 0
+    word : (a : ℕ) → ((i : ℕ) → 20 ≤ i → i < headerSize → getD b i 0 ≡ 0) → 20 ≤ a → a ≤ 28 → field 4 b a ≡ 0
     word a h p q = field-zero 4 b a .1 (λ k l. h (a + k) (omega arith) (omega arith))
 
 fixed-test : (L : Layout) (b : List ℕ) → Fixed L b → fixedHeader L b ≡ true
@@ -149,7 +113,7 @@ accepted n f own serials e =
 -- an image has a row for each of its n lines
 image-lines : (L : Layout) (b : List ℕ) → length (serialsIn (rowsOf L b)) ≡ nodeOf b .lines
 unfolding nodeOf
-image-lines L b = ap length (serials-of-rows (L .masks) (getD b 0 0) b 32) ∙ length-words (getD b 0 0) (rowSize (L .masks)) b 32
+image-lines L b = ap length (serials-of-rows (L .masks) (getD b 0 0) b headerSize) ∙ length-words (getD b 0 0) (rowSize (L .masks)) b headerSize
 
 -- ---- the whole image
 

@@ -5,107 +5,34 @@
 use mathlib.Core.Path.{_≡_, refl, sym, ap, _∙_}
 use mathlib.Core.Logic.{_⊎_, inl, inr}
 use mathlib.Core.Bool.{Bool, true, false, cond, false≢true}
-use mathlib.Core.List.{List, [], _∷_, _++_, map, List·Memᴰ, List·Memᴰ·not-nil}
+use mathlib.Core.List.{List, [], _∷_, _++_, List·Memᴰ, List·Memᴰ·not-nil}
 use mathlib.Core.List.List·Memᴰ.{List·Memᴰ·head}
-use Prim.Native.Nat.{ℕ, _+_, _^_, _<_}
+use Prim.Native.Nat.{ℕ, _^_, _<_}
 use native.Mathlib.Decide.{ℕ-discrete}
-use native.Mathlib.Omega.{arith}
-use borrow.Author.Tests.{eq-eqb, ne-eqb, eqb-true}
+use borrow.Author.Tests.{eq-eqb, ne-eqb}
 use lib.ListN.{length, getD}
 use lib.Dec.{eqb}
 use Rattle.fields.specs.Field.{field, Bytes}
-use Rattle.fields.specs.Kind.{INIT, ECHO}
 use Rattle.forms.specs.Roster.{count}
-use Rattle.sets.specs.History.{Sent, hear, heard}
-use Rattle.sets.specs.Ticks.{Held, empty, add}
-use Rattle.sets.proofs.Histories.{heard-same}
-use Rattle.sets.proofs.Members.{Proper, proper-facts, proper-empty}
-use Rattle.evidence.specs.Rows.{Row, setOf, creditRow, creditOf, credit}
-use Rattle.evidence.proofs.Encoded.{bytes-putRows}
-use Rattle.evidence.proofs.Growth.{AllKept}
+use Rattle.sets.specs.History.{Sent, heard}
+use Rattle.sets.specs.Ticks.{Held}
+use Rattle.sets.proofs.Histories.{heard-same, heard-append}
+use Rattle.sets.proofs.Members.{Proper}
+use Rattle.evidence.specs.Holders.{heldUnder}
+use Rattle.evidence.specs.Rows.{credit}
+use Rattle.evidence.specs.Serials.{serialsIn}
 use Rattle.evidence.proofs.Layouts.{serials-of-rows}
+use Rattle.evidence.proofs.Under.{Known, under-own, under-other, held-proper}
 use Rattle.rules.specs.Delivery.{State, delivered}
 use Rattle.node.specs.Calls.{Outcome, deliverNumber, deliveryOf, imageAfter, deliverOutcome}
-use Rattle.node.specs.Heard.{imageLeft, heldUnder, sentBy, acceptedBy, accepted}
-use Rattle.node.specs.Image.{Layout, rowsOf, stateOf, soundImage}
+use Rattle.node.specs.Heard.{imageLeft, sentBy, acceptedBy, accepted}
+use Rattle.node.specs.Image.{Layout, headerSize, rowsOf, stateOf, soundImage}
 use Rattle.node.specs.Runs.{Call, Deliver, Read, called}
-use Rattle.node.proofs.Images.{bytes-putClock}
+use Rattle.node.proofs.Images.{bytes-after}
+use Rattle.node.proofs.Outcomes.{deliver-done, deliver-refused}
 use Rattle.node.proofs.Sound.{sound-bytes}
 use Rattle.node.proofs.SoundImages.{Works, delivery-sound}
-use Rattle.node.proofs.Outcomes.{deliver-done, deliver-refused}
 use Rattle.node.proofs.Taken.{Taken, deliver-taken, WholeFrame, frame-whole}
-
--- a kind that frames have
-abbrev Known : ℕ → Type 0
-Known kind = (kind ≡ INIT) ⊎ (kind ≡ ECHO)
-
--- a history behind a history
-heard-append : (w kind : ℕ) (s : Held) (frames others : List Sent) →
-    heard w kind s (frames ++ others) ≡ heard w kind (heard w kind s frames) others
-unfolding heard
-heard-append w kind s [] others = refl
-heard-append w kind s (frame ∷ frames) others = heard-append w kind (hear w kind s frame) frames others
-
--- ---- a credited frame is heard under its serial, and under no other
-
-row-keeps : (w kind j : ℕ) (row : Row) → creditRow w kind j row .serial ≡ row .serial
-unfolding creditRow
-row-keeps w kind j row = go (eqb kind ECHO)
-  where
-    go : (t : Bool) →
-        cond {A = Row} t (record { serial = row .serial; echo = add w kind (row .echo) j; init = row .init })
-        (record { serial = row .serial; echo = row .echo; init = add w kind (row .init) j }) .serial
-        ≡ row .serial
-    go true = refl
-    go false = refl
-
-row-hears : (w kind j asked : ℕ) (row : Row) →
-    Known kind →
-    Known asked →
-    setOf asked (creditRow w kind j row) ≡ hear w asked (setOf asked row) (record { kind = kind; tick = j })
-unfolding setOf creditRow hear
-row-hears w kind j asked row (inl p) (inl q) = rw (p, q)
-row-hears w kind j asked row (inl p) (inr q) = rw (p, q)
-row-hears w kind j asked row (inr p) (inl q) = rw (p, q)
-row-hears w kind j asked row (inr p) (inr q) = rw (p, q)
-
-module _ (w kind j asked : ℕ) (known : Known kind) (wanted : Known asked) where
-  under-own : (serial : ℕ) (rows : List Row) →
-      (count serial (map (λ (row : Row). row .serial) rows) ≡ 0 → ⊥) →
-      heldUnder (credit w serial kind j rows) serial asked
-      ≡ hear w asked (heldUnder rows serial asked) (record { kind = kind; tick = j })
-  unfolding heldUnder credit creditOf count
-  under-own serial [] listed = absurd (listed refl)
-  under-own serial (row ∷ rows) listed = go (eqb (row .serial) serial) refl (under-own serial rows) listed
-    where
-      go : (t : Bool) →
-          eqb (row .serial) serial ≡ t →
-          ((count serial (map (λ (row : Row). row .serial) rows) ≡ 0 → ⊥) →
-          heldUnder (credit w serial kind j rows) serial asked
-          ≡ hear w asked (heldUnder rows serial asked) (record { kind = kind; tick = j })) →
-          (cond t 1 0 + count serial (map (λ (row : Row). row .serial) rows) ≡ 0 → ⊥) →
-          cond (eqb (cond t (creditRow w kind j row) row .serial) serial) (setOf asked (cond t (creditRow w kind j row) row))
-          (heldUnder (credit w serial kind j rows) serial asked)
-          ≡ hear w asked (cond t (setOf asked row) (heldUnder rows serial asked)) (record { kind = kind; tick = j })
-      go true e ih n = rw (ap (λ (x : ℕ). eqb x serial) (row-keeps w kind j row) ∙ e) (row-hears w kind j asked row known wanted)
-      go false e ih n = rw e (ih (λ z. n (omega arith)))
-
-  under-other : (port serial : ℕ) (rows : List Row) →
-      (port ≡ serial → ⊥) →
-      heldUnder (credit w port kind j rows) serial asked ≡ heldUnder rows serial asked
-  unfolding heldUnder credit creditOf
-  under-other port serial [] apart = refl
-  under-other port serial (row ∷ rows) apart = go (eqb (row .serial) port) refl (under-other port serial rows apart)
-    where
-      go : (t : Bool) →
-          eqb (row .serial) port ≡ t →
-          heldUnder (credit w port kind j rows) serial asked ≡ heldUnder rows serial asked →
-          cond (eqb (cond t (creditRow w kind j row) row .serial) serial) (setOf asked (cond t (creditRow w kind j row) row))
-          (heldUnder (credit w port kind j rows) serial asked)
-          ≡ cond (eqb (row .serial) serial) (setOf asked row) (heldUnder rows serial asked)
-      go true e ih =
-          rw (row-keeps w kind j row, ne-eqb (row .serial) serial (λ q. apart (sym (eqb-true (row .serial) port e) ∙ q))) ih
-      go false e ih = ap (cond (eqb (row .serial) serial) (setOf asked row)) ih
 
 -- ---- one call
 
@@ -126,12 +53,12 @@ refused-nothing L last image serial port frame out n =
     }
 
 bytes-called : (L : Layout) (last : ℕ) (image : List ℕ) (call : Call) → Bytes image → Bytes (called L last image call .image)
-unfolding called imageAfter
+unfolding called
 bytes-called L last image Read h = h
 bytes-called L last image (Deliver port frame out) h = go (ℕ-discrete (deliverNumber L last image port frame (length out)) 0)
   where
     go : Dec (deliverNumber L last image port frame (length out) ≡ 0) → Bytes (deliverOutcome L last image port frame out .image)
-    go (yes e) = rw (deliver-done L last image port frame out e) (bytes-putClock _ _ (bytes-putRows (L .masks) image 32 _ h))
+    go (yes e) = rw (deliver-done L last image port frame out e) (bytes-after L image _ h)
     go (no n) = rw (deliver-refused L last image port frame out n) h
 
 module _ (L : Layout) (last : ℕ) (works : Works L) (small : last < 2 ^ 32) (serial kind : ℕ) (known : Known kind) where
@@ -152,8 +79,8 @@ module _ (L : Layout) (last : ℕ) (works : Works L) (small : last < 2 ^ 32) (se
       whole : WholeFrame last frame
       whole = frame-whole last frame (taken .shape)
 
-      listed : count port (map (λ (row : Row). row .serial) (rowsOf L image)) ≡ 0 → ⊥
-      listed = rw (serials-of-rows (L .masks) (getD image 0 0) image 32) (taken .listed)
+      listed : count port (serialsIn (rowsOf L image)) ≡ 0 → ⊥
+      listed = rw (serials-of-rows (L .masks) (getD image 0 0) image headerSize) (taken .listed)
 
       go : Dec (port ≡ serial) →
           heldUnder (credit (L .window) port (getD frame 0 0) (field 4 frame 4) (rowsOf L image)) serial kind
@@ -189,7 +116,7 @@ pub held-is-heard : (L : Layout) (last : ℕ) →
     last < 2 ^ 32 →
     (image : List ℕ) (calls : List Call) (serial kind : ℕ) →
     Bytes image →
-    (kind ≡ INIT) ⊎ (kind ≡ ECHO) →
+    Known kind →
     heldUnder (rowsOf L (imageLeft L last image calls)) serial kind
     ≡ heard (L .window) kind (heldUnder (rowsOf L image) serial kind) (accepted L last image serial calls)
 unfolding imageLeft accepted heard
@@ -201,20 +128,6 @@ held-is-heard L last works small image (call ∷ calls) serial kind bytes known 
     ∙ sym (heard-append (L .window) kind (heldUnder (rowsOf L image) serial kind) (acceptedBy L last image serial call) _)
 
 -- ---- order and repetition decide nothing
-
--- the sets of a sound image are proper
-held-proper : (w last : ℕ) (rows : List Row) (serial kind : ℕ) → AllKept w last rows → Proper w (heldUnder rows serial kind)
-unfolding heldUnder setOf
-held-proper w last [] serial kind h = proper-facts w empty (proper-empty w empty refl)
-held-proper w last (row ∷ rows) serial kind h =
-    go (eqb (row .serial) serial) (eqb kind ECHO) (held-proper w last rows serial kind (h .1))
-  where
-    go : (t e : Bool) →
-        Proper w (heldUnder rows serial kind) →
-        Proper w (cond t (cond e (row .echo) (row .init)) (heldUnder rows serial kind))
-    go true true r = h .0 .0 .good
-    go true false r = h .0 .1 .good
-    go false e r = r
 
 -- an image that is not sound takes no frame
 unsound-nothing : (L : Layout) (last : ℕ) (image : List ℕ) (serial : ℕ) (call : Call) →
@@ -245,7 +158,7 @@ pub held-alike : (L : Layout) (last : ℕ) →
     (image other : List ℕ) (calls others : List Call) (serial kind : ℕ) →
     Bytes image →
     Bytes other →
-    (kind ≡ INIT) ⊎ (kind ≡ ECHO) →
+    Known kind →
     heldUnder (rowsOf L image) serial kind ≡ heldUnder (rowsOf L other) serial kind →
     ((frame : Sent) → List·Memᴰ frame (accepted L last image serial calls) → List·Memᴰ frame (accepted L last other serial others)) →
     ((frame : Sent) → List·Memᴰ frame (accepted L last other serial others) → List·Memᴰ frame (accepted L last image serial calls)) →
@@ -276,7 +189,7 @@ pub held-same : (L : Layout) (last : ℕ) →
     last < 2 ^ 32 →
     (image : List ℕ) (calls others : List Call) (serial kind : ℕ) →
     Bytes image →
-    (kind ≡ INIT) ⊎ (kind ≡ ECHO) →
+    Known kind →
     ((frame : Sent) → List·Memᴰ frame (accepted L last image serial calls) → List·Memᴰ frame (accepted L last image serial others)) →
     ((frame : Sent) → List·Memᴰ frame (accepted L last image serial others) → List·Memᴰ frame (accepted L last image serial calls)) →
     heldUnder (rowsOf L (imageLeft L last image calls)) serial kind ≡ heldUnder (rowsOf L (imageLeft L last image others)) serial kind

@@ -14,7 +14,8 @@ use Rattle.fields.proofs.Fields.{field-byte, field-same, field-lt, put-field, g
 use Rattle.evidence.specs.Rows.{Row, rowSize, rowsAt, putRows}
 use Rattle.evidence.proofs.Layouts.{rows-same, put-rows}
 use Rattle.evidence.proofs.Encoded.{RowsFit, rows-read-back, length-putRows, bytes-putRows, getD-putRows-before}
-use Rattle.rules.specs.Delivery.{State}
+use Rattle.rules.specs.Delivery.{State, Delivered}
+use Rattle.node.specs.Calls.{imageAfter}
 use Rattle.node.specs.Image.{Layout, headerSize, imageSize, nodeOf, rowsOf, stateOf}
 use Rattle.node.specs.Image.{putClock, putFixed, putNode, putState, fixedHeader}
 use Rattle.rules.specs.declared.node.Node.{Node}
@@ -59,8 +60,12 @@ length-putClock b p = ap length (clock-stores b p) ∙ length-stores b (clockSto
 pub length-putNode : (L : Layout) (b : List ℕ) (p : Node) → length (putNode L b p) ≡ length b
 length-putNode L b p = ap length (node-stores L b p) ∙ length-stores b (nodeStores L p)
 
-pub bytes-putClock : (b : List ℕ) (p : Node) → Bytes b → Bytes (putClock b p)
+bytes-putClock : (b : List ℕ) (p : Node) → Bytes b → Bytes (putClock b p)
 bytes-putClock b p h = subst Bytes (sym (clock-stores b p)) (bytes-stores b (clockStores p) h)
+
+pub bytes-after : (L : Layout) (b : List ℕ) (d : Delivered) → Bytes b → Bytes (imageAfter L b d)
+unfolding imageAfter
+bytes-after L b d h = bytes-putClock _ (d .state .node) (bytes-putRows (L .masks) b headerSize (d .state .rows) h)
 
 pub bytes-putState : (L : Layout) (b : List ℕ) (s : State) → Bytes b → Bytes (putState L b s)
 unfolding putState

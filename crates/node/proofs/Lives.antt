@@ -24,11 +24,11 @@ use Rattle.node.specs.After.{Begins, Follows}
 use Rattle.node.specs.Calls.{Outcome, Reading, bootNumber, freshState, booted, deliverNumber, deliveryOf, imageAfter, deliverOutcome, readNumber, reading}
 use Rattle.rules.specs.Delivery.{State, Delivered, delivered}
 use Rattle.rules.specs.Describe.{room, freshNode, freshRows}
-use Rattle.node.specs.Image.{Layout, imageSize, nodeOf, rowsOf, rosterIn, stateOf, soundImage, putState}
+use Rattle.node.specs.Image.{Layout, headerSize, imageSize, nodeOf, rowsOf, rosterIn, stateOf, soundImage, putState}
 use Rattle.rules.specs.Record.{Outgoing, putRecords}
 use Rattle.node.specs.Runs.{Call, Deliver, Read, under, Seen, seenBy, seenIn, Called, called, observed, life}
 use Rattle.rules.specs.declared.node.Node.{Node}
-use Rattle.node.proofs.Images.{bytes-putClock, bytes-putState}
+use Rattle.node.proofs.Images.{bytes-after, bytes-putState}
 use Rattle.node.proofs.Orderly.{delivery-order, under-order}
 use Rattle.node.proofs.Taken.{boot-taken}
 use Rattle.node.proofs.SoundImages.{Works, delivery-sound, boot-sound}
@@ -52,7 +52,7 @@ pub data Alike (L : Layout) (last : ℕ) (a b : List ℕ) : Type 0 where
 module _ (L : Layout) (last : ℕ) (a b : List ℕ) (h : Pair L last a b) where
   serials : List·Permᴰ (rosterIn L a) (rosterIn L b)
   serials =
-      subst₂ (λ (x y : List ℕ). List·Permᴰ x y) (serials-of-rows (L .masks) (getD a 0 0) a 32) (serials-of-rows (L .masks) (getD b 0 0) b 32)
+      subst₂ (λ (x y : List ℕ). List·Permᴰ x y) (serials-of-rows (L .masks) (getD a 0 0) a headerSize) (serials-of-rows (L .masks) (getD b 0 0) b headerSize)
       (Permᴰ·map (λ (row : Row). row .serial) (h .rows))
 
   same-number : (port : ℕ) (frame : List ℕ) (n : ℕ) → deliverNumber L last a port frame n ≡ deliverNumber L last b port frame n
@@ -128,10 +128,6 @@ module _ (L : Layout) (last : ℕ) (works : Works L) (small : last < 2 ^ 32) whe
         rows = subst₂ (λ (p q : List Row). List·Permᴰ p q) (sym (ap (λ (z : State). z .rows) e)) (sym (ap (λ (z : State). z .rows) f)) (m .rows);
       })
 
-  bytes-after : (a : List ℕ) (d : Delivered) → Bytes a → Bytes (imageAfter L a d)
-  unfolding imageAfter
-  bytes-after a d h = bytes-putClock _ (d .state .node) (bytes-putRows (L .masks) a 32 (d .state .rows) h)
-
   deliver-met : (a b : List ℕ) (port : ℕ) (frame out : List ℕ) → Pair L last a b → Met L last (deliverOutcome L last a port frame out) (deliverOutcome L last b port frame out)
   deliver-met a b port frame out h = go (ℕ-discrete (deliverNumber L last a port frame (length out)) 0)
     where
@@ -149,7 +145,7 @@ module _ (L : Layout) (last : ℕ) (works : Works L) (small : last < 2 ^ 32) whe
             number = refl;
             records = ap (λ (l : List Outgoing). length l) (m .1);
             out = ap (putRecords out 0) (m .1);
-            image = pair-of _ _ _ _ (x .sound) (y .sound) (bytes-after a _ (h .bytes₁)) (bytes-after b _ (h .bytes₂)) (x .state) (y .state) (m .0);
+            image = pair-of _ _ _ _ (x .sound) (y .sound) (bytes-after L a _ (h .bytes₁)) (bytes-after L b _ (h .bytes₂)) (x .state) (y .state) (m .0);
           })
       go (no n) =
           subst₂ (Met L last) (sym (deliver-refused L last a port frame out n)) (sym (deliver-refused L last b port frame out (λ e. n (number ∙ e))))

@@ -17,6 +17,7 @@ use Rattle.fields.specs.Field.{Bytes}
 use Rattle.fields.specs.Kind.{INIT, ECHO}
 use Rattle.forms.specs.Form.{linesOf, Reordered}
 use Rattle.forms.specs.Table.{Says}
+use Rattle.evidence.specs.Holders.{heldUnder}
 use Rattle.rules.specs.Clock.{Ordered, Below}
 use Rattle.rules.specs.Delivery.{Delivered}
 use Rattle.sets.specs.History.{Sent, heard}
@@ -28,7 +29,7 @@ use Rattle.node.specs.After.{Begins, Follows, InRow}
 use Rattle.node.specs.Calls.{Outcome, refused, booted, deliverNumber, deliveryOf, deliverDone, deliverOutcome, unread, reading}
 use Rattle.node.specs.Calls.{Reading as Told}
 use Rattle.node.specs.Faces.{outcomeBy, readingBy}
-use Rattle.node.specs.Heard.{imageLeft, heldUnder, accepted}
+use Rattle.node.specs.Heard.{imageLeft, accepted}
 use Rattle.node.specs.Image.{layout, imageSize, rowsOf, nodeOf, stateOf, fixedHeader, putState}
 use Rattle.node.specs.Runs.{Call, life}
 use Rattle.node.specs.Table.{bootChecks, deliverChecks, readChecks}

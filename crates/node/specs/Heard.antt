@@ -1,5 +1,5 @@
--- What a node has heard from a sender over any calls (01, "Evidence"): the image that is left, the set held under a serial, and the
--- frames accepted from it. proofs/Heard.antt ties them to `heard` of the sets.
+-- What a node has heard from a sender over any calls (01, "Evidence"): the image that is left, and the frames accepted from a serial.
+-- proofs/Heard.antt ties them to `heard` of the sets.
 use Prim.Native.Nat.{ℕ}
 use mathlib.Core.List.{List, [], _∷_, _++_}
 use mathlib.Core.Bool.{cond, _&&_}
@@ -7,8 +7,6 @@ use lib.ListN.{getD}
 use lib.Dec.{eqb}
 use Rattle.fields.specs.Field.{field}
 use Rattle.sets.specs.History.{Sent}
-use Rattle.sets.specs.Ticks.{Held, empty}
-use Rattle.evidence.specs.Rows.{Row, setOf}
 use Rattle.node.specs.Calls.{deliverOutcome}
 use Rattle.node.specs.Image.{Layout}
 use Rattle.node.specs.Runs.{Call, Deliver, Read, called}
@@ -17,11 +15,6 @@ use Rattle.node.specs.Runs.{Call, Deliver, Read, called}
 unfoldable pub imageLeft : Layout → ℕ → List ℕ → List Call → List ℕ
 imageLeft L last image [] = image
 imageLeft L last image (call ∷ calls) = imageLeft L last (called L last image call .image) calls
-
--- the set of a kind held under a serial: that of the row with this serial, of which a sound image has one at most; empty where none has it
-unfoldable pub heldUnder : List Row → ℕ → ℕ → Held
-heldUnder [] serial kind = empty
-heldUnder (row ∷ rows) serial kind = cond (eqb (row .serial) serial) (setOf kind row) (heldUnder rows serial kind)
 
 -- kind and tick of a frame's bytes
 abbrev pub sentBy : List ℕ → Sent

@@ -300,3 +300,10 @@ run-late w s (suc c) (suc i) wide p =
 pub add-late : (w kind : ℕ) (s : Held) (j : ℕ) → 0 < w → j + w ≤ s .top → add w kind s j ≡ s
 unfolding add added
 add-late w kind s j wide p = run-late w s (manyAdded kind) j wide p
+
+-- a history behind a history
+pub heard-append : (w kind : ℕ) (s : Held) (frames others : List Sent) →
+    heard w kind s (frames ++ others) ≡ heard w kind (heard w kind s frames) others
+unfolding heard
+heard-append w kind s [] others = refl
+heard-append w kind s (frame ∷ frames) others = heard-append w kind (hear w kind s frame) frames others

@@ -1,10 +1,12 @@
 -- Laws of a mask's bits, over every width: a bit of a number by halving it, of a shifted, a cut and a marked one, and that a
 -- number is its bits.
 -- Assumes nothing.
-use mathlib.Core.Path.{_≡_, refl, sym, ap, ap₂, _∙_}
+use mathlib.Core.Path.{_≡_, refl, sym, ap, ap₂, _∙_, subst}
+use mathlib.Core.Logic.{_↔_}
 use Prim.Native.Nat.{ℕ, zero, suc, _+_, _-_, _*_, _/_, _%_, _^_, _≤_, _<_}
 use native.Mathlib.Nat.{pow-suc, pow-succ', div-div-eq-div-mul, div-one, div-eq-of-lt, lt-of-lt-of-le, mul-assoc}
 use native.Mathlib.Nat.{add-suc, add-zero, lt-of-le-of-lt, mod-lt, mod-le, mod-eq-of-lt, one-mul}
+use native.Mathlib.Decide.{decLt, ℕ-discrete}
 use native.Mathlib.Omega.{arith}
 use lib.Pow.{pow-pos, pow-mono, pow-lt, mod-mod-pow, shl-lt}
 use lib.Arith.{mod-mul}
@@ -155,3 +157,26 @@ cut-wide n w x p = ap (λ (k : ℕ). x % 2 ^ k % 2 ^ w) whole ∙ mod-mod-pow x 
   where
     whole : n ≡ n - w + w
     whole = omega arith
+
+-- n has n bits at most
+under-power : (n : ℕ) → n < 2 ^ n
+under-power zero = omega arith
+under-power (suc n) = omega (arith, under-power n, pow-suc 2 n)
+
+-- a mask is below 2 ^ k exactly where each bit that is set is one of the lowest k
+pub bits-below : (m k : ℕ) → (m < 2 ^ k) ↔ ((i : ℕ) → bit m i ≡ 1 → i < k)
+bits-below m k = (
+  λ p i e. elim (decLt i k) [ yes q ↦ q | no q ↦ absurd (omega (arith, bit-out m k i p (omega arith))) ],
+  λ h. subst (λ (n : ℕ). n < 2 ^ k) (cut h) (mod-lt m (pow-pos k)),
+)
+  where
+    cut : ((i : ℕ) → bit m i ≡ 1 → i < k) → m % 2 ^ k ≡ m
+    cut h =
+        bits-same m (m % 2 ^ k) m (omega (arith, mod-le m (2 ^ k), under-power m)) (under-power m)
+        (λ i q. elim (decLt i k) [
+          | yes p ↦ cut-at k m i p
+          | no p ↦ bit-out (m % 2 ^ k) k i (mod-lt m (pow-pos k)) (omega arith) ∙ sym (unset i p)
+        ])
+      where
+        unset : (i : ℕ) → (i < k → ⊥) → bit m i ≡ 0
+        unset i p = elim (ℕ-discrete (bit m i) 1) [ yes e ↦ absurd (p (h i e)) | no n ↦ omega (arith, bit-le m i) ]

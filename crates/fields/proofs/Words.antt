@@ -1,4 +1,5 @@
--- Laws of a column of words, over the stride: what a store of words leaves, and that words stored read back.
+-- Laws of a column of words, over the stride: the way down it line by line, what a store of words leaves, and that words stored
+-- read back.
 -- Assumes nothing.
 use mathlib.Core.Path.{_≡_, refl, sym, ap, ap₂, _∙_}
 use Prim.Native.Nat.{ℕ, zero, suc, _+_, _-_, _*_, _^_, _≤_, _<_}

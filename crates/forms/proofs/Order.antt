@@ -1,5 +1,5 @@
--- The order of lines decides nothing: a roster and a form whose lines are reordered get the same number and the same fields.
--- So a zero serial and a twin are never taken in line order.
+-- The order of lines decides nothing: a roster and a form whose lines are reordered get the same number and the same fields, be the
+-- form's length right or wrong. So a zero serial and a twin are never taken in line order.
 -- Assumes nothing.
 use mathlib.Core.Path.{_≡_, refl, sym, ap, ap₂, _∙_, subst₂}
 use Prim.Native.Nat.{ℕ, _+_, _<_, _≤_}

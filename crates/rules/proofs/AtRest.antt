@@ -21,7 +21,7 @@ use Rattle.rules.specs.Rules.{jumpTo, firstRule, atRest, fired, Settled,
 use Rattle.rules.specs.declared.node.Node.{Node}
 use Rattle.rules.specs.declared.node.Rule.{Rule}
 use Rattle.rules.specs.declared.node.Rule.the-variants.{Rest, Echo, Tick, Jump, Wake}
-use Rattle.rules.proofs.Firing.{Told, told, rest-or, fired-same, Fires, settle-induction}
+use Rattle.rules.proofs.Firing.{Told, told, rest-or, fired-same, FiringStep, settle-induction}
 
 -- ---- the potential
 
@@ -204,7 +204,7 @@ module _ (w last k₀ j : ℕ) (rows : List Row) where
         omega arith,
       )
 
-      fires : Fires w last rows Resting
+      fires : FiringStep w last rows Resting
       fires c p ne ih calm n q b =
           let rule = firstRule w last rows p in
           let same = fired-same p rule in

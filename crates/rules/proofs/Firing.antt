@@ -181,8 +181,8 @@ module _ (w last : ℕ) (rows : List Row) where
   settle-down (suc c) p h e = rw (← less c) (settle-fires c p e)
 
   -- the step of the induction: a rule fires, and P holds of what follows
-  abbrev pub Fires : (ℕ → Node → Settled → Type 0) → Type 0
-  Fires P =
+  abbrev pub FiringStep : (ℕ → Node → Settled → Type 0) → Type 0
+  FiringStep P =
       (c : ℕ) (p : Node)
       → let rule = firstRule w last rows p in
       let next = settle w last rows c (fired p rule) in
@@ -197,7 +197,7 @@ module _ (w last : ℕ) (rows : List Row) where
       → ((p : Node) → P 0 p (still p))
       -- no rule can fire
       → ((c : ℕ) (p : Node) → firstRule w last rows p ≡ Rest → P (suc c) p (still p))
-      → Fires P
+      → FiringStep P
       → (c : ℕ) (p : Node)
       → P c p (settle w last rows c p)
   settle-induction P used rests fires zero p = subst (P 0 p) (sym (settle-none p)) (used p)

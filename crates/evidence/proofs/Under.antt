@@ -6,12 +6,12 @@ use mathlib.Core.Bool.{Bool, true, false, cond}
 use mathlib.Core.List.{List, [], _∷_}
 use Prim.Native.Nat.{ℕ, _+_}
 use native.Mathlib.Omega.{arith}
-use borrow.Author.Tests.{eq-eqb, ne-eqb, eqb-true, eqb-false}
+use borrow.Author.Tests.{eqb-true}
 use lib.Dec.{eqb}
 use Rattle.fields.specs.Kind.{INIT, ECHO}
 use Rattle.forms.specs.Roster.{count}
 use Rattle.sets.specs.History.{Sent, hear}
-use Rattle.sets.specs.Ticks.{Held, empty}
+use Rattle.sets.specs.Ticks.{empty}
 use Rattle.sets.proofs.Members.{Proper, proper-facts, proper-empty}
 use Rattle.evidence.specs.Holders.{heldUnder}
 use Rattle.evidence.specs.Rows.{Row, setOf, creditRow, creditOf, credit}

@@ -5,7 +5,7 @@ use mathlib.Core.Path.{_≡_, refl, sym, ap, _∙_, subst}
 use mathlib.Core.Logic.{_↔_, inl, inr, ⊎-elim}
 use mathlib.Core.Bool.{true, not}
 use mathlib.Core.List.{List, [], _∷_, List·Memᴰ, List·Memᴰ·head, List·Memᴰ·tail, List·Memᴰ·cases-cons, List·Memᴰ·not-nil}
-use Prim.Native.Nat.{ℕ, zero, suc, _+_, _-_, _%_, _^_, _≤_, _<_}
+use Prim.Native.Nat.{ℕ, _+_, _-_, _≤_, _<_}
 use native.Mathlib.Decide.{decLt, ℕ-discrete}
 use native.Mathlib.Omega.{arith}
 use borrow.Author.Tests.{eq-eqb}
@@ -16,7 +16,7 @@ use Rattle.fields.proofs.Words.{length-words}
 use Rattle.forms.specs.Roster.{rosterNumber}
 use Rattle.forms.specs.Table.{_or_, Given, rosterChecks}
 use Rattle.forms.proofs.Meaning.{Decides, opposite, roster-says}
-use Rattle.sets.specs.Ticks.{Held, bit}
+use Rattle.sets.specs.Ticks.{Held}
 use Rattle.sets.proofs.Masks.{bit-zero, bits-below}
 use Rattle.evidence.specs.Rows.{Row, rowSize}
 use Rattle.evidence.specs.Serials.{serialsIn}

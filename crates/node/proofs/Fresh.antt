@@ -1,28 +1,26 @@
 -- A fresh node is sound: nothing is held, so no rule can fire.
 -- Assumes nothing.
-use mathlib.Core.Path.{_≡_, refl, sym, ap, ap₂, _∙_, subst}
-use mathlib.Core.Logic.{_⊎_, inl, inr}
+use mathlib.Core.Path.{_≡_, refl, ap, ap₂, _∙_}
+use mathlib.Core.Logic.{inl}
 use mathlib.Core.Bool.{Bool, true, false, cond, _&&_}
-use mathlib.Core.List.{List, [], _∷_, map}
-use Prim.Native.Nat.{ℕ, zero, suc, _+_, _-_, _*_, _≤_, _<_}
+use mathlib.Core.List.{List, [], _∷_}
+use Prim.Native.Nat.{ℕ, suc, _+_, _-_, _<_}
 use native.Mathlib.Omega.{arith}
 use borrow.Author.Tests.{lt-leb}
 use lib.ListN.{length}
 use lib.Dec.{ltb, leb, eqb}
 use lib.Pow.{pow-pos}
 use Rattle.forms.specs.Roster.{rosterNumber}
-use Rattle.sets.specs.Ticks.{Held, empty, holds}
-use Rattle.evidence.specs.Rows.{Row, setOf}
+use Rattle.sets.specs.Ticks.{empty, holds}
+use Rattle.evidence.specs.Rows.{setOf}
 use Rattle.evidence.specs.Serials.{serialsIn}
 use Rattle.evidence.specs.Holders.{holders, greatest}
 use Rattle.evidence.proofs.Greatest.{greatest-none}
 use Rattle.evidence.proofs.Growth.{Kept, AllKept}
 use Rattle.sets.proofs.Members.{bare}
-use Rattle.rules.specs.Delivery.{State}
 use Rattle.rules.specs.Describe.{freshNode, freshRows}
 use Rattle.rules.specs.Rules.{orJump, orWake, firstRule}
-use Rattle.rules.specs.declared.node.Rule.{Rule}
-use Rattle.rules.specs.declared.node.Rule.the-variants.{Rest, Echo, Tick, Jump, Wake}
+use Rattle.rules.specs.declared.node.Rule.the-variants.{Rest, Echo, Tick}
 use Rattle.forms.proofs.Rosters.{roster-limits}
 use Rattle.node.proofs.Sound.{Sound}
 

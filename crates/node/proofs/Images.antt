@@ -1,16 +1,16 @@
 -- The byte level is the list level: an image written reads back as the node that was written, what a delivery writes reads back
 -- as the node that follows, and a sound image written again is the same bytes. Over the layout.
 -- Assumes nothing.
-use mathlib.Core.Path.{_≡_, refl, sym, ap, ap₂, _∙_, subst}
+use mathlib.Core.Path.{_≡_, refl, sym, ap, _∙_, subst}
 use mathlib.Core.Bool.{Bool, true, _&&_, and-eq-true-iff}
-use mathlib.Core.List.{List, [], _∷_, _++_, map}
-use Prim.Native.Nat.{ℕ, zero, suc, _+_, _-_, _*_, _^_, _≤_, _<_}
+use mathlib.Core.List.{List, [], _∷_}
+use Prim.Native.Nat.{ℕ, suc, _+_, _-_, _*_, _^_, _≤_, _<_}
 use native.Mathlib.Omega.{arith}
-use borrow.Author.Tests.{eq-eqb, eqb-true, le-ltb, ltb-false, not-true}
+use borrow.Author.Tests.{eq-eqb, eqb-true}
 use lib.ListN.{length, getD, drop}
-use lib.Dec.{T, ltb, leb, eqb, lit<, lit≤}
+use lib.Dec.{T, eqb, lit<, lit≤}
 use Rattle.fields.specs.Field.{field, putField, Bytes}
-use Rattle.fields.proofs.Fields.{field-byte, field-same, field-lt, put-field, getD-put-other}
+use Rattle.fields.proofs.Fields.{field-byte, field-same, put-field, getD-put-other}
 use Rattle.evidence.specs.Rows.{Row, rowSize, rowsAt, putRows}
 use Rattle.evidence.proofs.Layouts.{rows-same, put-rows}
 use Rattle.evidence.proofs.Encoded.{RowsFit, rows-read-back, length-putRows, bytes-putRows, getD-putRows-before}
@@ -20,7 +20,7 @@ use Rattle.node.specs.Image.{Layout, headerSize, imageSize, nodeOf, rows
 use Rattle.node.specs.Image.{putClock, putFixed, putNode, putState, fixedHeader}
 use Rattle.rules.specs.declared.node.Node.{Node}
 use Rattle.fields.proofs.Stores.{Store, store, putStores, apart, stored-at, stores-apart}
-use Rattle.fields.proofs.Stores.{length-stores, bytes-stores, getD-stores, getD-above}
+use Rattle.fields.proofs.Stores.{length-stores, bytes-stores, getD-above}
 
 -- a node whose numbers fit their fields
 pub record NodeFits (p : Node) : Type 0 where

@@ -1,33 +1,26 @@
 -- What the calls leave alone, for every outcome, refused ones included: bytes behind the image's size, bytes behind the records, and
 -- of the image itself all but mode, k, last echo and the port's row. Over the layout.
 -- Assumes nothing.
-use mathlib.Core.Path.{_≡_, refl, sym, ap, _∙_, subst}
-use mathlib.Core.Bool.{Bool, true, false, cond}
-use mathlib.Core.List.{List, [], _∷_}
-use Prim.Native.Nat.{ℕ, zero, suc, _+_, _*_, _≤_, _<_}
-use native.Mathlib.Nat.{suc-mul}
+use mathlib.Core.Path.{_≡_, refl, sym, _∙_, subst}
+use mathlib.Core.List.{List}
+use Prim.Native.Nat.{ℕ, _+_, _*_, _≤_, _<_}
 use native.Mathlib.Omega.{arith}
-use borrow.Author.Tests.{eqb-true}
 use lib.ListN.{length, getD, length-map}
-use lib.Dec.{eqb, lit≤}
-use Rattle.fields.specs.Field.{field, putField, Bytes}
-use Rattle.fields.proofs.Fields.{getD-put-other}
+use Rattle.fields.specs.Field.{field, Bytes}
 use Rattle.fields.proofs.Words.{length-words}
 use Rattle.forms.specs.Form.{linesOf, serialsOf}
-use Rattle.forms.specs.Frame.{putFrame}
-use Rattle.evidence.specs.Rows.{Row, rowSize, rowAt, rowsAt, putRow, putRows, creditRow, creditOf, credit}
+use Rattle.evidence.specs.Rows.{rowSize, rowsAt, credit}
 use Rattle.evidence.proofs.Credits.{credit-elsewhere}
-use Rattle.evidence.proofs.Encoded.{length-putRows, bytes-putRows, getD-putRow-other, getD-putRows-after}
-use Rattle.evidence.proofs.Layouts.{length-rows, row-same, put-row}
+use Rattle.evidence.proofs.Encoded.{length-putRows, getD-putRows-after}
+use Rattle.evidence.proofs.Layouts.{length-rows}
 use Rattle.rules.specs.Delivery.{delivered}
 use Rattle.rules.specs.Describe.{bootRecords}
-use Rattle.rules.specs.Record.{Outgoing, recordSize, putRecord, putRecords}
-use Rattle.rules.specs.declared.node.Node.{Node}
+use Rattle.rules.specs.Record.{recordSize}
 use Rattle.rules.proofs.Records.{length-putRecords, getD-putRecords-after}
 use Rattle.node.specs.After.{InRow}
-use Rattle.node.specs.Calls.{Outcome, refused, outcome, bootNumber, freshState, booted, deliverNumber, deliveryOf, imageAfter}
+use Rattle.node.specs.Calls.{bootNumber, freshState, booted, deliverNumber, deliveryOf, imageAfter}
 use Rattle.node.specs.Calls.{deliverOutcome}
-use Rattle.node.specs.Image.{Layout, headerSize, imageSize, stateOf, putClock, putFixed, putNode, putState}
+use Rattle.node.specs.Image.{Layout, headerSize, imageSize, stateOf, putState}
 use Rattle.node.proofs.Fresh.{fresh-length}
 use Rattle.node.proofs.Images.{length-putClock, length-putNode, getD-putClock-other, getD-putNode-after}
 use Rattle.node.proofs.Outcomes.{either-way}

@@ -2,31 +2,25 @@
 -- lent, and any calls, refused ones included: after each call the same is seen. Over the layout and the last tick.
 -- Assumes nothing.
 use mathlib.Core.Path.{_≡_, refl, sym, ap, ap₂, _∙_, subst, subst₂}
-use mathlib.Core.Bool.{Bool, true, false, cond}
+use mathlib.Core.Bool.{Bool, true, cond}
 use mathlib.Core.List.{List, [], _∷_, map, List·Permᴰ, Permᴰ·map}
-use Prim.Native.Nat.{ℕ, zero, suc, _+_, _^_, _≤_, _<_}
+use Prim.Native.Nat.{ℕ, _^_, _≤_, _<_}
 use native.Mathlib.Decide.{ℕ-discrete}
-use native.Mathlib.Omega.{arith}
-use lib.ListN.{length, getD, take}
+use lib.ListN.{length, getD}
 use lib.Dec.{ltb, eqb, lit<, lit≤}
-use lib.Seq.{getD-take}
-use Rattle.fields.specs.Field.{field, words, Bytes}
-use Rattle.forms.specs.Form.{linesOf, Reordered, formNumber}
+use Rattle.fields.specs.Field.{field, Bytes}
+use Rattle.forms.specs.Form.{Reordered, formNumber}
 use Rattle.forms.specs.Frame.{frameNumber}
 use Rattle.forms.specs.Number.{orElse}
-use Rattle.forms.specs.Roster.{count}
-use Rattle.fields.proofs.Fields.{field-same}
 use Rattle.forms.proofs.Order.{count-order, byte-same, front-same, form-number-order, serials-order}
-use Rattle.evidence.specs.Rows.{Row, rowSize, rowsAt}
-use Rattle.evidence.proofs.Encoded.{bytes-putRows}
+use Rattle.evidence.specs.Rows.{Row}
 use Rattle.evidence.proofs.Layouts.{serials-of-rows}
-use Rattle.node.specs.After.{Begins, Follows}
-use Rattle.node.specs.Calls.{Outcome, Reading, bootNumber, freshState, booted, deliverNumber, deliveryOf, imageAfter, deliverOutcome, readNumber, reading}
+use Rattle.node.specs.Calls.{Outcome, Reading, bootNumber, freshState, booted, deliverNumber, deliveryOf, deliverOutcome, readNumber, reading}
 use Rattle.rules.specs.Delivery.{State, Delivered, delivered}
 use Rattle.rules.specs.Describe.{room, freshNode, freshRows}
-use Rattle.node.specs.Image.{Layout, headerSize, imageSize, nodeOf, rowsOf, rosterIn, stateOf, soundImage, putState}
+use Rattle.node.specs.Image.{Layout, headerSize, imageSize, nodeOf, rowsOf, rosterIn, stateOf, soundImage}
 use Rattle.rules.specs.Record.{Outgoing, putRecords}
-use Rattle.node.specs.Runs.{Call, Deliver, Read, under, Seen, seenBy, seenIn, Called, called, observed, life}
+use Rattle.node.specs.Runs.{Call, Deliver, Read, under, Seen, seenBy, seenIn, called, observed, life}
 use Rattle.rules.specs.declared.node.Node.{Node}
 use Rattle.node.proofs.Images.{bytes-after, bytes-putState}
 use Rattle.node.proofs.Orderly.{delivery-order, under-order}

@@ -8,7 +8,7 @@ use Prim.Native.Nat.{ℕ}
 use native.Mathlib.Omega.{arith}
 use lib.ListN.{length, getD}
 use Rattle.forms.specs.Form.{linesOf}
-use Rattle.forms.specs.Table.{Given, Says}
+use Rattle.forms.specs.Table.{Says}
 use Rattle.forms.proofs.Meaning.{less, equal, in-front, none, form-then, frame-says, frame-told, absent}
 use Rattle.rules.specs.Describe.{room}
 use Rattle.node.specs.Calls.{bootNumber, booted, deliverNumber, deliverOutcome, readNumber, reading}

@@ -1,21 +1,18 @@
 -- A sound state and a sound image as facts: the tests say just these; and of its roster, that every serial stands once and f is below n.
 -- Assumes nothing.
-use mathlib.Core.Path.{_≡_, refl, ap, subst}
-use mathlib.Core.Bool.{Bool, true, false, cond, _&&_, and-eq-true-iff}
-use mathlib.Core.List.{List, [], _∷_, map}
-use Prim.Native.Nat.{ℕ, _+_, _≤_}
-use native.Mathlib.Decide.{decLt}
+use mathlib.Core.Path.{_≡_, subst}
+use mathlib.Core.Bool.{true, and-eq-true-iff}
+use mathlib.Core.List.{List}
+use Prim.Native.Nat.{ℕ, _≤_}
 use native.Mathlib.Omega.{arith}
 use lib.ListN.{length, getD}
-use lib.Dec.{eqb}
 use borrow.Author.Tests.{ltb-false, le-ltb, leb-true, le-leb, eqb-true, eq-eqb, not-true}
 use Rattle.fields.specs.Field.{field, words}
-use Rattle.forms.specs.Roster.{count, twins, rosterNumber}
-use Rattle.forms.proofs.Meaning.{roster-says, twice-says}
+use Rattle.forms.specs.Roster.{count, rosterNumber}
 use Rattle.forms.proofs.Rosters.{Limits, roster-limits, roster-twins, count-once}
 use Rattle.fields.proofs.Words.{length-words}
 use Rattle.sets.specs.Sets.{maskBytes}
-use Rattle.evidence.specs.Rows.{rowSize, rowBytes, rowsAt, properRows}
+use Rattle.evidence.specs.Rows.{rowSize, rowBytes, rowsAt}
 use Rattle.evidence.specs.Serials.{serialsIn}
 use Rattle.evidence.proofs.Growth.{AllKept, all-kept, all-kept-test}
 use Rattle.evidence.proofs.Layouts.{serials-of-rows}

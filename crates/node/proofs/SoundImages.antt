@@ -1,35 +1,31 @@
 -- A sound image stays sound: after boot, and after every accepted delivery; and its bytes hold just the node that the definitions
 -- on lists give. Over the layout and the last tick.
 -- Assumes nothing.
-use mathlib.Core.Path.{_≡_, refl, sym, ap, ap₂, _∙_, subst}
-use mathlib.Core.Bool.{Bool, true, false, cond}
-use mathlib.Core.List.{List, [], _∷_, map}
-use Prim.Native.Nat.{ℕ, zero, suc, _+_, _-_, _*_, _^_, _≤_, _<_}
+use mathlib.Core.Path.{_≡_, refl, sym, ap, _∙_, subst}
+use mathlib.Core.Bool.{true}
+use mathlib.Core.List.{List, [], _∷_}
+use Prim.Native.Nat.{ℕ, suc, _-_, _^_, _≤_, _<_}
 use native.Mathlib.Omega.{arith}
-use borrow.Author.Tests.{eq-eqb, ne-eqb, ltb-false, lt-ltb}
 use lib.ListN.{length, getD}
-use lib.Dec.{ltb, eqb, lit<, lit≤}
-use Rattle.fields.specs.Field.{field, words, Bytes}
+use lib.Dec.{lit<, lit≤}
+use Rattle.fields.specs.Field.{field, Bytes}
 use native.Mathlib.Nat.{one-le-pow}
-use Rattle.forms.specs.Form.{misplaced, linesOf, faultsOf, ownOf, serialsOf, formNumber}
-use Rattle.forms.specs.Number.{orElse}
-use Rattle.forms.specs.Roster.{rosterNumber}
+use Rattle.forms.specs.Form.{linesOf, faultsOf, ownOf, serialsOf}
 use Rattle.forms.proofs.Told.{form-roster}
 use Rattle.fields.proofs.Fields.{field-lt}
 use Rattle.fields.proofs.Words.{Words, length-words, words-words}
 use Rattle.sets.specs.Ticks.{empty}
-use Rattle.evidence.specs.Rows.{Row, rowSize, rowsAt, credit, putRows}
+use Rattle.evidence.specs.Rows.{rowsAt, putRows}
 use Rattle.evidence.proofs.Layouts.{length-rows}
 use Rattle.evidence.proofs.Encoded.{SetFits, RowsFit, rows-fit, credit-fits, length-credit}
 use Rattle.node.specs.After.{Begins, Follows}
-use Rattle.node.specs.Calls.{Outcome, refused, outcome, bootNumber, freshState, bootDone, booted, deliverNumber, deliveryOf, imageAfter, deliverDone, deliverOutcome}
+use Rattle.node.specs.Calls.{bootNumber, freshState, deliverNumber, deliveryOf, imageAfter}
 use Rattle.rules.specs.Delivery.{State, Delivered, delivered}
-use Rattle.rules.specs.Describe.{freshNode, freshRows, bootRecords}
+use Rattle.rules.specs.Describe.{freshNode, freshRows}
 use Rattle.node.specs.Image.{Layout, layout, imageSize, nodeOf, stateOf, fixedHeader, soundImage, putClock, putState}
 use Rattle.rules.specs.Clock.{Ordered, Below}
-use Rattle.rules.specs.Record.{putRecords}
 use Rattle.rules.specs.declared.node.Node.{Node}
-use Rattle.node.proofs.Fresh.{fresh-serials, fresh-length, fresh-sound}
+use Rattle.node.proofs.Fresh.{fresh-length, fresh-sound}
 use Rattle.node.proofs.Images.{fixed-facts, Fine, NodeFits, state-after, fixed-after, length-after, node-after, state-read-back, fixed-of-state, length-putState}
 use Rattle.node.proofs.Sound.{Sound, SoundBytes, sound-bytes, bytes-sound, rows-inside}
 use Rattle.node.proofs.Stays.{sound-after, ordered-after, rest-after, records-few, records-below}

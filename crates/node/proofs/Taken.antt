@@ -11,11 +11,11 @@ use native.Mathlib.Omega.{arith}
 use lib.ListN.{length, getD}
 use lib.Dec.{ltb, eqb}
 use borrow.Author.Tests.{ltb-false, eqb-false}
-use Rattle.fields.specs.Field.{field, words}
-use Rattle.forms.specs.Form.{linesOf, faultsOf, ownOf, serialsOf, misplaced, formNumber, FormTold, formTold, toldBy}
+use Rattle.fields.specs.Field.{field}
+use Rattle.forms.specs.Form.{linesOf, faultsOf, ownOf, formNumber, FormTold, formTold, toldBy}
 use Rattle.forms.specs.Frame.{frameNumber}
 use Rattle.forms.specs.Number.{numberOf, orElse}
-use Rattle.forms.specs.Roster.{count, rosterNumber}
+use Rattle.forms.specs.Roster.{count}
 use Rattle.forms.specs.declared.answer.Refusal.{Refusal}
 use Rattle.forms.specs.declared.form.Form.{Form}
 use Rattle.forms.specs.declared.form.FormRead.{FormRead}

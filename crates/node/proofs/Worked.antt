@@ -3,17 +3,17 @@
 -- two say what 22 holds after echo 69, and after echo 70 instead.
 -- Assumes nothing.
 use mathlib.Core.Path.{_≡_, refl}
-use mathlib.Core.List.{List, [], _∷_, _++_, map}
-use mathlib.Core.Bool.{Bool, true, false, cond}
+use mathlib.Core.List.{List, [], _∷_, _++_}
+use mathlib.Core.Bool.{cond}
 use Prim.Native.Nat.{ℕ, zero, suc, _*_}
 use lib.Dec.{eqb}
-use lib.ListN.{length, getD, take, replicate}
+use lib.ListN.{take, replicate}
 use Rattle.fields.specs.Kind.{INIT, ECHO}
 use Rattle.fields.specs.Field.{field, putField, words}
 use Rattle.forms.specs.Form.{formNumber}
 use Rattle.forms.specs.Frame.{frameNumber, putFrame}
 use Rattle.forms.specs.Roster.{count, twins, rosterNumber}
-use Rattle.sets.specs.Ticks.{Held, empty, bit, raised, marked, holds, insert, insertAll, run, added, add, proper}
+use Rattle.sets.specs.Ticks.{Held, bit, raised, marked, holds, insert, insertAll, run, added, add, proper}
 use Rattle.evidence.specs.Rows.{Row, setOf, setAt, rowAt, rowsAt, putSet, putRow, putRows, creditRow, creditOf, credit, properSet, properRows}
 use Rattle.evidence.specs.Holders.{holders, firstDown, bestOf, bestAmong, greatest}
 use Rattle.rules.specs.Describe.{window, lastTick, room, freshRows}

@@ -1,7 +1,6 @@
 -- What settling and a delivery do to the clock: the node stays who it is, mode is 0 or 1, active stays active, k never falls, and
 -- last echo ≤ k ≤ last tick, where no set holds a tick above the last.
 -- Assumes nothing.
-use mathlib.Core.Path.{_≡_}
 use mathlib.Core.List.{List}
 use Prim.Native.Nat.{ℕ, _+_, _≤_, _<_}
 use native.Mathlib.Omega.{arith}

@@ -16,7 +16,7 @@ ghost use Rattle.evidence.specs.Rows.{setBytes, rowBytes, setPlace, setA
 ghost use Rattle.sets.specs.Sets.{maskBytes, maskBits, heldBy};
 
 // Bytes of a set: its top and its mask.
-pub const SET: usize = 4 + Ticks::BYTES;
+const SET: usize = 4 + Ticks::BYTES;
 
 // Bytes of a row: serial, echo set, init set.
 pub const ROW: usize = 4 + 2 * SET;

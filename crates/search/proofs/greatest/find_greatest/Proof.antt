@@ -1,8 +1,8 @@
 -- `greatest::find_greatest` meets its contract: look by look no tick that enough rows hold is left above x.
 -- Assumes nothing.
 use borrow.Author.Needs.{needs}
-use mathlib.Core.Path.{_≡_, sym}
-use Prim.Native.Nat.{_≤_, max}
+use mathlib.Core.Path.{_≡_, sym, subst}
+use Prim.Native.Nat.{ℕ, _≤_, max}
 use native.Mathlib.Omega.{arith}
 use denote.Ref.{now}
 use Rattle.fields.specs.Field.{Bytes}
@@ -63,7 +63,13 @@ best :
     let x = c .before .before .before .before .before .loop .x in
     let looked = lookedAt (a .w) (a .kind) (a .m) (a .low) rows x (c .before .before .before .scan .result) in
     c .better .result ≡ max (a .low) (bestOf (a .w) (a .kind) (max 1 (a .m)) (a .low) rows looked)
-best c = rw (c .before .before .before .before .before .before .before .at-least-one .ensures) at (c .better .ensures)
+best c =
+    let a = c .before .before .before .before .before .before .before .before .before .before .args in
+    let rows = rowsAt maskBytes (a .n) (now (a .b)) (a .i) in
+    let x = c .before .before .before .before .before .loop .x in
+    let looked = lookedAt (a .w) (a .kind) (a .m) (a .low) rows x (c .before .before .before .scan .result) in
+    subst (λ (m : ℕ). c .better .result ≡ max (a .low) (bestOf (a .w) (a .kind) m (a .low) rows looked))
+    (c .before .before .before .before .before .before .before .at-least-one .ensures) (c .better .ensures)
 
 returns : tie.Need-returns Inv-loop μ-loop
 returns c =

@@ -24,9 +24,6 @@ ghost use Rattle.rules.specs.Describe.{lastTick};
 ghost use Rattle.node.specs.Faces.{outcomeBy, readingBy};
 ghost use Rattle.node.specs.Image.{layout};
 
-// Bytes of output that boot and deliver ask: 16 records.
-pub const ROOM: usize = 192;
-
 // The number of a call, and the records that stand in the output.
 #[repr(C)]
 pub struct Answer {
@@ -61,7 +58,7 @@ pub extern "C" fn pebrassola_boot(form: &[u8], image: &mut [u8], out: &mut [u8])
                     records: 0,
                 };
             }
-            if out.len() < ROOM {
+            if out.len() < Node::ROOM {
                 return Answer {
                     number: 7,
                     records: 0,
@@ -82,7 +79,7 @@ pub extern "C" fn pebrassola_boot(form: &[u8], image: &mut [u8], out: &mut [u8])
 fn deliver_number(image: &[u8], port: u32, frame: &[u8], room: usize) -> u32
     ensures { λ r. ⌜ r ≡ deliverNumber layout lastTick (now (image .entry)) port (now (frame .entry)) room ⌝ }
 {
-    if room < ROOM {
+    if room < Node::ROOM {
         return 7;
     }
     if !is_sound(image) {

@@ -1,4 +1,6 @@
 // The node image in lent bytes: its header read and written, its rows made, and whether it is sound.
+use evidence::rows::ECHO_PLACE;
+use evidence::rows::INIT_PLACE;
 use evidence::rows::ROW;
 use evidence::rows::are_proper;
 use evidence::rows::store_set;
@@ -7,6 +9,7 @@ use fields::field::put_half;
 use fields::field::put_word;
 use fields::field::word;
 use forms::answer::Verdict;
+use forms::form::SERIALS;
 use forms::roster::judge;
 use rules::node::Node;
 use sets::ticks::Ticks;
@@ -156,9 +159,9 @@ pub(crate) fn put_fresh_rows(b: &mut [u8], form: &[u8], n: usize)
     let mut k = 0;
     while k < n {
         let at = HEADER + k * ROW;
-        put_word(b, at, word(form, 8 + k * 4));
-        store_set(b, at + 4, Ticks::none());
-        store_set(b, at + 16, Ticks::none());
+        put_word(b, at, word(form, SERIALS + k * 4));
+        store_set(b, at + ECHO_PLACE, Ticks::none());
+        store_set(b, at + INIT_PLACE, Ticks::none());
         k += 1;
     }
 }

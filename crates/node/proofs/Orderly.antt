@@ -20,7 +20,7 @@ use Rattle.rules.specs.declared.node.Node.{Node}
 use Rattle.rules.specs.declared.node.Rule.the-variants.{Echo, Tick}
 
 module _ (w last : ℕ) {rows others : List Row} (order : List·Permᴰ rows others) where
-  pub rule-order : (p : Node) → firstRule w last rows p ≡ firstRule w last others p
+  rule-order : (p : Node) → firstRule w last rows p ≡ firstRule w last others p
   unfolding firstRule
   rule-order p =
       λ d.
@@ -30,7 +30,7 @@ module _ (w last : ℕ) {rows others : List Row} (order : List·Permᴰ rows oth
       (orJump (greatest-order w ECHO (p .faults + 1) (p .tick + 2) order d)
       (orWake (cond (eqb (p .mode) 0) (greatest-order w INIT (p .faults + 1) 0 order d) 0)))))
 
-  pub settle-order : (c : ℕ) (p : Node) → settle w last rows c p ≡ settle w last others c p
+  settle-order : (c : ℕ) (p : Node) → settle w last rows c p ≡ settle w last others c p
   settle-order =
       settle-induction w last rows (λ c p s. s ≡ settle w last others c p) (λ p. sym (settle-none w last others p))
       (λ c p e. sym (settle-rest w last others (suc c) p (sym (rule-order p) ∙ e)))

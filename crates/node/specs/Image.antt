@@ -1,16 +1,16 @@
 -- The node image (01, "Layouts" and "One delivery"): bytes to node and back, and when an image is sound. The layout is a small
 -- record, so that another window with wider masks is another value of it and not another definition.
 use Prim.Native.Nat.{ℕ, _+_, _*_, _≤_, _<_}
-use mathlib.Core.List.{List, map}
+use mathlib.Core.List.{List}
 use mathlib.Core.Bool.{Bool, not, _&&_}
 use lib.ListN.{length, getD}
 use lib.Dec.{ltb, leb, eqb}
 use Rattle.fields.specs.Field.{field, putField, words}
 use Rattle.forms.specs.Roster.{mostLines, rosterNumber}
 use Rattle.sets.specs.Sets.{maskBytes}
+use Rattle.evidence.specs.Serials.{serialsIn}
 use Rattle.evidence.specs.Rows.{Row, rowSize, rowsAt, putRows, properRows}
-use Rattle.rules.specs.Rules.{firstRule}
-pub use Rattle.rules.specs.Rules.{atRest}
+use Rattle.rules.specs.Rules.{firstRule, atRest}
 use Rattle.rules.specs.Delivery.{State}
 use Rattle.rules.specs.Describe.{window}
 use Rattle.rules.specs.declared.node.Node.{Node}
@@ -92,7 +92,7 @@ fixedHeader L b =
 -- a roster that 2 to 5 would accept, mode 0 or 1, last echo ≤ k ≤ last tick, proper sets, and no rule that can fire
 unfoldable pub soundState : ℕ → ℕ → State → Bool
 soundState w last s =
-    eqb (rosterNumber (s .node .faults) (s .node .own) (map (λ row. row .serial) (s .rows))) 0
+    eqb (rosterNumber (s .node .faults) (s .node .own) (serialsIn (s .rows))) 0
     && (leb (s .node .mode) 1 && (leb (s .node .sent) (s .node .tick) && (leb (s .node .tick) last
     && (properRows w last (s .rows) && atRest (firstRule w last (s .rows) (s .node))))))
 

@@ -14,8 +14,8 @@ use Rattle.forms.proofs.Told.{refusal}
 use Rattle.evidence.specs.Rows.{Row, rowsAt, properRows}
 use Rattle.evidence.proofs.Layouts.{serials-of-rows}
 use Rattle.rules.specs.Describe.{window, lastTick}
-use Rattle.node.specs.Image.{atRest, soundState}
-use Rattle.rules.specs.Rules.{firstRule}
+use Rattle.node.specs.Image.{soundState}
+use Rattle.rules.specs.Rules.{firstRule, atRest}
 use Rattle.node.proofs.Sound.{rows-limits}
 use Rattle.node.proofs.image.is_sound_state.Statement.{statement}
 use Rattle.node.proofs.image.is_sound_state.Tie as tie

@@ -1,5 +1,6 @@
--- The node's own description (01, "Limits"): the window, the last tick, the room that boot and deliver ask, and the fresh node.
--- They stand here and on `Node` in the code, and nowhere else; every other definition takes them as parameters.
+-- The node's own description (01, "Limits"): the window, the last tick, how many rules a delivery may fire, the room that boot and
+-- deliver ask, and the fresh node. Each number stands here, and on `Node` in the code. Definitions of sets, rows, rules and calls take
+-- window and last tick as parameters; contracts and theorems name them.
 use Prim.Native.Nat.{ℕ, _+_, _*_}
 use mathlib.Core.List.{List, [], _∷_, map}
 use Rattle.fields.specs.Kind.{ECHO}

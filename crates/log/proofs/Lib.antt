@@ -2,7 +2,7 @@
 mod Examples
 pub mod Decimals
 pub mod Lays
+pub mod Lines
 pub mod LogTrip
 pub mod Logs
-pub mod Parts
 pub mod Puts

@@ -1,28 +1,33 @@
--- What a writer that answers the place behind its bytes leaves, and what two such writers leave one after the other.
+-- Laws of text that is put: none, one byte, more room or the same text, and what two writers put of which the second goes on where
+-- the first stopped.
 -- Assumes nothing.
-use mathlib.Core.Path.{_≡_, sym, ap₂, _∙_}
+use mathlib.Core.Path.{_≡_, sym, ap₂, _∙_, subst}
 use mathlib.Core.List.{List, [], _∷_, _++_}
 use Prim.Native.Nat.{ℕ, _+_, _≤_, _<_}
 use native.Mathlib.Omega.{arith}
 use lib.ListN.{length, set, length-append}
 use Rattle.log.specs.Log.{lay}
+use Rattle.log.specs.Puts.{Puts}
 use Rattle.log.proofs.Lays.{lay-none, lay-append, lay-one}
 
--- bytes laid over a list from place i on leave `after`, and `next` is the place behind them
-pub record Puts (out : List ℕ) (i : ℕ) (bytes after : List ℕ) (next : ℕ) : Type 0 where
-  pub behind : next ≡ i + length bytes
-  pub left : after ≡ lay out i bytes
+pub puts-none : {out : List ℕ} {i : ℕ} → i ≤ length out → Puts out i [] 0 out i
+puts-none {out} {i} p = record { behind = omega arith; within = omega arith; left = sym (lay-none out i p) }
 
-pub puts-none : {out : List ℕ} {i : ℕ} → i ≤ length out → Puts out i [] out i
-puts-none {out} {i} p = record { behind = omega arith; left = sym (lay-none out i p) }
+pub puts-one : {out : List ℕ} {i x : ℕ} {after : List ℕ} {next : ℕ} →
+    i < length out → next ≡ i + 1 → after ≡ set out i x → Puts out i (x ∷ []) 1 after next
+puts-one {out} {i} {x} p e f = record { behind = e; within = omega arith; left = f ∙ sym (lay-one out i x p) }
 
-pub puts-one : {out : List ℕ} {i x : ℕ} {after : List ℕ} {next : ℕ} → i < length out → next ≡ i + 1 → after ≡ set out i x → Puts out i (x ∷ []) after next
-puts-one {out} {i} {x} p e f = record { behind = e; left = f ∙ sym (lay-one out i x p) }
+pub puts-as : {out : List ℕ} {i : ℕ} {xs ys : List ℕ} {r s : ℕ} {after : List ℕ} {next : ℕ} →
+    xs ≡ ys → r ≤ s → Puts out i xs r after next → Puts out i ys s after next
+puts-as {out} {i} {s = s} {after} {next} same wider put =
+    subst (λ (text : List ℕ). Puts out i text s after next) same (record { behind = put .behind; within = omega arith; left = put .left })
 
-pub puts-then : {out : List ℕ} {i : ℕ} {xs middle : List ℕ} {j : ℕ} {ys after : List ℕ} {next : ℕ} → next ≤ length out → Puts out i xs middle j → Puts middle j ys after next →
-    Puts out i (xs ++ ys) after next
-puts-then {out} {i} {xs} {middle} {j} {ys} {after} {next} room p q =
+pub puts-then : {out : List ℕ} {i : ℕ} {xs : List ℕ} {r : ℕ} {middle : List ℕ} {j : ℕ} {ys : List ℕ} {s : ℕ}
+    {after : List ℕ} {next : ℕ} →
+    next ≤ length out → Puts out i xs r middle j → Puts middle j ys s after next → Puts out i (xs ++ ys) (r + s) after next
+puts-then {out} {i} {xs} {r} {middle} {j} {ys} {s} {after} {next} room p q =
     record {
       behind = omega (arith, length-append xs ys);
+      within = omega arith;
       left = q .left ∙ ap₂ (λ (l : List ℕ) (n : ℕ). lay l n ys) (p .left) (p .behind) ∙ sym (lay-append out i xs ys (omega arith));
     }

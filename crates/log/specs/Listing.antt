@@ -10,15 +10,33 @@ use Rattle.forms.specs.Form.{WriteTold}
 use Rattle.node.specs.Calls.{Outcome, booted, deliverOutcome}
 use Rattle.node.specs.Image.{Layout, nodeOf}
 use Rattle.log.specs.Decimal.{decimal}
-use Rattle.log.specs.Log.{countOf, eventsAt, formOf, logNumber, lay}
+use Rattle.log.specs.Log.{eventSize, mostEvents, countOf, eventsAt, formOf, logNumber, lay}
 
--- a number and a space
+abbrev pub newline : ℕ
+newline = 10
+
+-- a number of 32 bits has at most ten digits
+abbrev pub mostDigits : ℕ
+mostDigits = 10
+
+-- a column is a number and a space
+abbrev pub columnRoom : ℕ
+columnRoom = mostDigits + 1
+
+-- a line is four columns, the mode and the newline: at most 46 bytes
+abbrev pub lineRoom : ℕ
+lineRoom = 4 * columnRoom + 2
+
 unfoldable pub column : ℕ → List ℕ
 column n = decimal n ++ (32 ∷ [])
 
--- 112 is p, 97 is a, 10 a newline
+-- p for a passive node, a for an active one
+unfoldable pub modeLetter : ℕ → ℕ
+modeLetter mode = cond (eqb mode 0) 112 97
+
 unfoldable pub line : ℕ → ℕ → ℕ → ℕ → ℕ → List ℕ
-line event number records k mode = column event ++ (column number ++ (column records ++ (column k ++ (cond (eqb mode 0) 112 97 ∷ 10 ∷ []))))
+line event number records k mode =
+    column event ++ (column number ++ (column records ++ (column k ++ (modeLetter mode ∷ newline ∷ []))))
 
 -- the line of a call, with k and mode as its image has them afterwards
 unfoldable pub lineOf : ℕ → Outcome → List ℕ
@@ -33,7 +51,7 @@ unfoldable pub eventLines : Layout → ℕ → List ℕ → ℕ → ℕ → ℕ 
 eventLines L last log zero i e image out = []
 eventLines L last log (suc c) i e image out =
     lineOf e (eventCall L last log i image out)
-    ++ eventLines L last log c (i + 12) (e + 1) (eventCall L last log i image out .image) (eventCall L last log i image out .out)
+    ++ eventLines L last log c (i + eventSize) (e + 1) (eventCall L last log i image out .image) (eventCall L last log i image out .out)
 
 -- the buffers that the player lends to the calls: room for 32 rows, and for 16 records
 abbrev pub imageLent : List ℕ
@@ -54,7 +72,7 @@ listing L last log = cond (eqb (logNumber log) 0) (callLines L last log (booted 
 -- ---- the player: 7 where the room lent is less than 4,097 lines of 46 bytes, which every listing fits: four numbers of 32 bits
 
 abbrev pub listingRoom : ℕ
-listingRoom = 188462
+listingRoom = (mostEvents + 1) * lineRoom
 
 unfoldable pub played : Layout → ℕ → List ℕ → List ℕ → WriteTold
 played L last log out =

@@ -8,10 +8,24 @@ use lib.ListN.{length, take, drop}
 use lib.Dec.{ltb, eqb}
 use Rattle.fields.specs.Field.{field, putField}
 use Rattle.forms.specs.Form.{WriteTold}
+use Rattle.forms.specs.Frame.{frameSize}
 use Rattle.log.specs.declared.file.LogRead.{LogRead}
 use Rattle.log.specs.declared.file.LogRead.the-variants.{Taken, Refused}
 use Rattle.log.specs.declared.file.LogWritten.{LogWritten}
 use Rattle.log.specs.declared.file.LogWritten.the-variants.{Wrote, Broken, NoRoom}
+
+-- ---- sizes and limits
+
+-- the form stands behind the three numbers
+abbrev pub formPlace : ℕ
+formPlace = 12
+
+-- bytes of an event: port serial and frame
+abbrev pub eventSize : ℕ
+eventSize = 4 + frameSize
+
+abbrev pub mostEvents : ℕ
+mostEvents = 4096
 
 -- ---- the fields and parts as they lie in the bytes
 

@@ -1,10 +1,53 @@
--- What an answer of the player says.
-use Prim.Native.Nat.{ℕ}
+-- What an answer of the player says, and what its inner functions ask and promise.
+use mathlib.Core.Path.{_≡_}
 use mathlib.Core.List.{List}
+use Prim.Native.Nat.{ℕ, _+_, _*_, _≤_, _<_}
+use lib.ListN.{length}
 use Rattle.forms.specs.Form.{WriteTold}
+use Rattle.node.specs.Calls.{Outcome}
+use Rattle.node.specs.Image.{headerSize}
+use Rattle.log.specs.Listing.{lineOf, lineRoom}
+use Rattle.log.specs.Log.{formPlace, eventSize, mostEvents, countOf, eventsAt}
+use Rattle.log.specs.Puts.{Puts}
+use Rattle.log.specs.declared.file.Log.{Log}
+use Rattle.log.specs.declared.player.Call.{Call}
 use Rattle.log.specs.declared.player.Played.{Played}
 use Rattle.log.specs.declared.player.Played.the-variants.{Listed, NoRoom}
 
 abbrev pub playedBy : Played → List ℕ → WriteTold
 playedBy (Listed size) out = record { number = 0; written = size; out = out }
 playedBy NoRoom out = record { number = 7; written = 0; out = out }
+
+-- a call with the image and the output that it left
+abbrev pub outcomeOf : Call → List ℕ → List ℕ → Outcome
+outcomeOf call image out = record { number = call .number; records = call .records; image = image; out = out }
+
+-- a call that is shown: the call of event number e has outcome o, and its line is laid over the listing from place i on
+pub record CallShown (e : ℕ) (o : Outcome) (out : List ℕ) (i : ℕ) (call : Call) (image sent after : List ℕ) : Type 0 where
+  pub event : call .event ≡ e
+  pub outcome : outcomeOf call image sent ≡ o
+  pub line : Puts out i (lineOf e o) lineRoom after (call .next)
+
+-- ---- what is asked
+
+-- a log that is taken: count and place of the events are the log's, and they lie in it behind the form
+pub record TakenLog (log : List ℕ) (taken : Log) : Type 0 where
+  pub count : taken .count ≡ countOf log
+  pub events : taken .events ≡ eventsAt log
+  pub behind : formPlace ≤ taken .events
+  pub few : taken .count ≤ mostEvents
+  pub whole : taken .events + eventSize * taken .count ≤ length log
+
+-- one event: it lies in the log, it can be counted, and image and output have room
+pub record EventAsked (log : List ℕ) (place : ℕ) (before : Call) (image out : List ℕ) : Type 0 where
+  pub inside : place + eventSize ≤ length log
+  pub counted : before .event < mostEvents
+  pub header : headerSize ≤ length image
+  pub room : before .next + lineRoom ≤ length out
+
+-- all events: boot's line is the line before, and image and output have room
+pub record EventsAsked (log : List ℕ) (taken : Log) (boot : Call) (image out : List ℕ) : Type 0 where
+  pub of-log : TakenLog log taken
+  pub first : boot .event ≡ 0
+  pub header : headerSize ≤ length image
+  pub room : boot .next + lineRoom * taken .count ≤ length out

@@ -8,16 +8,19 @@ use node::face::Answer;
 use node::face::pebrassola_boot;
 use node::face::pebrassola_deliver;
 ghost use mathlib.Core.Path.{_≡_};
-ghost use Prim.Native.Nat.{_+_, _*_, _≤_};
+ghost use mathlib.Core.List.{List};
+ghost use Prim.Native.Nat.{ℕ, _+_, _*_, _≤_};
 ghost use lib.ListN.{length};
 ghost use Rattle.rules.specs.Describe.{lastTick};
 ghost use Rattle.node.specs.Calls.{booted};
 ghost use Rattle.node.specs.Faces.{outcomeBy};
-ghost use Rattle.node.specs.Image.{layout};
+ghost use Rattle.node.specs.Image.{headerSize, layout};
 ghost use Rattle.log.specs.Decimal.{decimal};
-ghost use Rattle.log.specs.Listing.{column, line, imageLent, outLent, callLines, played};
-ghost use Rattle.log.specs.Log.{countOf, eventsAt, formOf, lay};
-ghost use Rattle.log.specs.Played.{playedBy};
+ghost use Rattle.log.specs.Listing.{mostDigits, columnRoom, lineRoom, listingRoom, imageLent, outLent};
+ghost use Rattle.log.specs.Listing.{column, modeLetter, line, eventCall, eventLines, callLines, played};
+ghost use Rattle.log.specs.Log.{formOf};
+ghost use Rattle.log.specs.Played.{playedBy, TakenLog, CallShown, EventAsked, EventsAsked};
+ghost use Rattle.log.specs.Puts.{Puts};
 
 // Room for every listing: 4,097 lines of at most 46 bytes.
 pub const ROOM: usize = 188462;
@@ -31,8 +34,8 @@ pub enum Played {
 
 // Puts a number in decimal digits at place i, and gives the place behind it.
 fn put_decimal(out: &mut [u8], i: usize, n: u32) -> usize
-    requires { ⌜ i + 10 ≤ length (now out) ⌝ }
-    ensures { λ r. ⌜ (r ≡ i + length (decimal n)) × (r ≤ i + 10) × (now (out .exit) ≡ lay (now (out .entry)) i (decimal n)) ⌝ }
+    requires { ⌜ i + mostDigits ≤ length (now out) ⌝ }
+    ensures { λ r. ⌜ Puts (now (out .entry)) i (decimal n) mostDigits (now (out .exit)) r ⌝ }
 {
     let mut text = [0u8; 20];
     let k = io::decimal(n as u64, &mut text);
@@ -42,12 +45,19 @@ fn put_decimal(out: &mut [u8], i: usize, n: u32) -> usize
 
 // Puts a number and a space.
 fn put_column(out: &mut [u8], i: usize, n: u32) -> usize
-    requires { ⌜ i + 11 ≤ length (now out) ⌝ }
-    ensures { λ r. ⌜ (r ≡ i + length (column n)) × (r ≤ i + 11) × (now (out .exit) ≡ lay (now (out .entry)) i (column n)) ⌝ }
+    requires { ⌜ i + columnRoom ≤ length (now out) ⌝ }
+    ensures { λ r. ⌜ Puts (now (out .entry)) i (column n) columnRoom (now (out .exit)) r ⌝ }
 {
     let at = put_decimal(out, i, n);
     out[at] = 32;
     at + 1
+}
+
+// p for a passive node, a for an active one.
+fn mode_letter(mode: u32) -> u8
+    ensures { λ r. ⌜ r ≡ modeLetter mode ⌝ }
+{
+    if mode == 0 { 112 } else { 97 }
 }
 
 // Puts a line of the listing.
@@ -60,86 +70,116 @@ fn put_line(
     k: u32,
     mode: u32,
 ) -> usize
-    requires { ⌜ i + 46 ≤ length (now out) ⌝ }
-    ensures { λ r. ⌜ (r ≡ i + length (line event number records k mode)) × (r ≤ i + 46) × (now (out .exit) ≡ lay (now (out .entry)) i (line event number records k mode)) ⌝ }
+    requires { ⌜ i + lineRoom ≤ length (now out) ⌝ }
+    ensures { λ r. ⌜ Puts (now (out .entry)) i (line event number records k mode) lineRoom (now (out .exit)) r ⌝ }
 {
     let a = put_column(out, i, event);
     let b = put_column(out, a, number);
     let c = put_column(out, b, records);
     let d = put_column(out, c, k);
-    if mode == 0 {
-        out[d] = 112;
-    } else {
-        out[d] = 97;
-    }
+    out[d] = mode_letter(mode);
     out[d + 1] = 10;
     d + 2
 }
 
-// What a line shows of a call: the event's number (0 for boot), the number given back, and the records.
+// A call that is shown: the event's number (0 for boot), the number given back, the records, and the place behind its line.
 struct Call {
     event: u32,
     number: u32,
     records: u32,
+    next: usize,
 }
 
-impl Call {
-    fn new(event: u32, answer: Answer) -> Call
-        ensures { λ r. ⌜ (r .event ≡ event) × (r .number ≡ answer .number) × (r .records ≡ answer .records) ⌝ }
-    {
-        Call {
-            event,
-            number: answer.number,
-            records: answer.records,
-        }
+// Puts boot's line, from which the events are counted on. k and mode stand in the image that boot left; what boot sent is not shown.
+fn show_boot(boot: Answer, image: &[u8], out: &mut [u8]) -> Call
+    requires { ⌜ (headerSize ≤ length (now image)) × (lineRoom ≤ length (now out)) ⌝ }
+    ensures { λ r. ⌜ ((sent : List ℕ) → CallShown 0 (outcomeBy boot (now (image .entry)) sent)
+        (now (out .entry)) 0 r (now (image .entry)) sent (now (out .exit))) ⌝ }
+{
+    let k = word(image, 8);
+    let mode = image[2] as u32;
+    let number = boot.number;
+    let records = boot.records;
+    let next = put_line(out, 0, 0, number, records, k, mode);
+    Call {
+        event: 0,
+        number,
+        records,
+        next,
     }
 }
 
-// Puts boot's line and, where the form is taken, plays the events and puts the line of each. k and mode stand in the image that
-// the call left, whether it was refused or not; an event is counted on from the call before it.
+// Plays one event: delivers it, and puts its line behind the line of the call before. k and mode stand in the image that the call
+// left, whether it was refused or not; the event is counted on from the call before it.
+fn play_event(
+    log: &[u8],
+    place: usize,
+    before: Call,
+    image: &mut [u8],
+    sent: &mut [u8],
+    out: &mut [u8],
+) -> Call
+    requires { ⌜ EventAsked (now log) place before (now image) (now out) ⌝ }
+    ensures { λ r. ⌜ CallShown (before .event + 1)
+        (eventCall layout lastTick (now (log .entry)) place (now (image .entry)) (now (sent .entry)))
+        (now (out .entry)) (before .next) r (now (image .exit)) (now (sent .exit)) (now (out .exit)) ⌝ }
+{
+    let port = word(log, place);
+    let frame = &log[place + 4..place + 12];
+    let answer = pebrassola_deliver(image, port, frame, sent);
+    let after = &image[..];
+    let k = word(after, 8);
+    let mode = after[2] as u32;
+    let event = before.event + 1;
+    let number = answer.number;
+    let records = answer.records;
+    let next = put_line(out, before.next, event, number, records, k, mode);
+    Call {
+        event,
+        number,
+        records,
+        next,
+    }
+}
+
+// Plays the events of a log that is taken, and puts the line of each behind boot's line.
 fn play_events(
     log: &[u8],
     taken: Log,
-    boot: Answer,
+    boot: Call,
     image: &mut [u8],
     sent: &mut [u8],
     out: &mut [u8],
 ) -> usize
-    requires { ⌜ (taken .count ≤ 4096) × (taken .events + 12 * taken .count ≤ length (now log)) × (taken .events ≡ eventsAt (now log)) × (taken .count ≡ countOf (now log)) × (32 ≤ length (now image)) × (188462 ≤ length (now out)) ⌝ }
-    ensures { λ r. ⌜ (r ≡ length (callLines layout lastTick (now (log .entry)) (outcomeBy boot (now (image .entry)) (now (sent .entry))))) × (r ≤ 188462) × (now (out .exit) ≡ lay (now (out .entry)) 0 (callLines layout lastTick (now (log .entry)) (outcomeBy boot (now (image .entry)) (now (sent .entry))))) ⌝ }
+    requires { ⌜ EventsAsked (now log) taken boot (now image) (now out) ⌝ }
+    ensures { λ r. ⌜ Puts (now (out .entry)) (boot .next)
+        (eventLines layout lastTick (now (log .entry)) (taken .count) (taken .events) 1 (now (image .entry)) (now (sent .entry)))
+        (lineRoom * taken .count) (now (out .exit)) r ⌝ }
 {
-    let k = word(image, 8);
-    let mode = image[2] as u32;
-    let mut before = Call::new(0, boot);
-    let mut at = put_line(out, 0, before.event, before.number, before.records, k, mode);
-    if before.number != 0 {
-        return at;
-    }
+    let mut before = boot;
     let mut place = taken.events as usize;
     while before.event < taken.count {
-        let event = &log[place..place + 12];
-        let port = word(event, 0);
-        let answer = pebrassola_deliver(image, port, &event[4..12], sent);
-        let after = &image[..];
-        let k = word(after, 8);
-        let mode = after[2] as u32;
-        let call = Call::new(before.event + 1, answer);
-        at = put_line(out, at, call.event, call.number, call.records, k, mode);
-        before = call;
+        before = play_event(log, place, before, image, sent, out);
         place += 12;
     }
-    at
+    before.next
 }
 
-// Boots the form of a log that is taken, and plays its events.
+// Boots the form of a log that is taken, puts boot's line and, where the form is taken too, plays the events.
 fn play_calls(log: &[u8], taken: Log, out: &mut [u8]) -> usize
-    requires { ⌜ (12 ≤ taken .events) × (taken .count ≤ 4096) × (taken .events + 12 * taken .count ≤ length (now log)) × (taken .events ≡ eventsAt (now log)) × (taken .count ≡ countOf (now log)) × (188462 ≤ length (now out)) ⌝ }
-    ensures { λ r. ⌜ (r ≡ length (callLines layout lastTick (now (log .entry)) (booted layout (formOf (now (log .entry))) imageLent outLent))) × (r ≤ 188462) × (now (out .exit) ≡ lay (now (out .entry)) 0 (callLines layout lastTick (now (log .entry)) (booted layout (formOf (now (log .entry))) imageLent outLent))) ⌝ }
+    requires { ⌜ TakenLog (now log) taken × (listingRoom ≤ length (now out)) ⌝ }
+    ensures { λ r. ⌜ Puts (now (out .entry)) 0
+        (callLines layout lastTick (now (log .entry)) (booted layout (formOf (now (log .entry))) imageLent outLent))
+        listingRoom (now (out .exit)) r ⌝ }
 {
     let mut image = [0u8; 928];
     let mut sent = [0u8; 192];
     let e = taken.events as usize;
-    let boot = pebrassola_boot(&log[12..e], &mut image, &mut sent);
+    let answer = pebrassola_boot(&log[12..e], &mut image, &mut sent);
+    let boot = show_boot(answer, &image, out);
+    if boot.number != 0 {
+        return boot.next;
+    }
     play_events(log, taken, boot, &mut image, &mut sent, out)
 }
 

@@ -14,8 +14,11 @@ use Rattle.node.specs.Calls.{booted}
 use Rattle.rules.specs.Describe.{lastTick}
 use Rattle.node.specs.Image.{layout}
 use Rattle.log.specs.Listing.{line, imageLent, outLent, callLines, listing, listingRoom, played}
-use Rattle.log.specs.Log.{LogTold, countOf, eventsAt, formOf, logNumber, logTold, toldBy, lay}
-use Rattle.log.specs.declared.file.LogRead.the-variants.{Refused}
+use Rattle.log.specs.Log.{LogTold, countOf, eventsAt, formOf, logNumber, logTold, toldBy}
+use Rattle.log.specs.Played.{TakenLog}
+use Rattle.log.specs.Puts.{Puts}
+use Rattle.log.specs.declared.file.Log.{Log}
+use Rattle.log.specs.declared.file.LogRead.the-variants.{Taken, Refused}
 use Rattle.log.proofs.Logs.{Laid, Judged, log-judged, told-laid, told-broken}
 use Rattle.log.proofs.player.play.Statement.{statement}
 use Rattle.log.proofs.player.play.Tie as tie
@@ -23,32 +26,47 @@ use Rattle.log.proofs.player.play.Tie as tie
 -- ---- the answers
 
 -- too little room
-played-short : (log out : List ℕ) → length out < listingRoom → record { number = 7; written = 0; out = out } ≡ played layout lastTick log out
+played-short : (log out : List ℕ) → length out < listingRoom →
+    record { number = 7; written = 0; out = out } ≡ played layout lastTick log out
 unfolding played
 played-short log out p = rw (lt-ltb (length out) listingRoom p)
 
 -- a listing laid from the start on
-played-listed : (log out : List ℕ) {lines after : List ℕ} {size : ℕ} → listingRoom ≤ length out → listing layout lastTick log ≡ lines → size ≡ length lines → after ≡ lay out 0 lines → record { number = 0; written = size; out = after } ≡ played layout lastTick log out
+played-listed : (log : List ℕ) {out lines : List ℕ} {room : ℕ} {after : List ℕ} {size : ℕ} →
+    listingRoom ≤ length out → listing layout lastTick log ≡ lines → Puts out 0 lines room after size →
+    record { number = 0; written = size; out = after } ≡ played layout lastTick log out
 unfolding played
-played-listed log out p lines size bytes = rw (le-ltb (length out) listingRoom p, lines) (ap₂ {C = WriteTold} (λ (n : ℕ) (l : List ℕ). record { number = 0; written = n; out = l }) size bytes)
+played-listed log {out} {lines} {room} {after} {size} p is put =
+    rw (le-ltb (length out) listingRoom p, is)
+    (ap₂ {C = WriteTold} (λ (n : ℕ) (l : List ℕ). record { number = 0; written = n; out = l }) (omega (arith, put .behind)) (put .left))
 
 -- ---- the two listings, as the reader tells them apart
 
--- a log that is taken: its layout holds, count and place of the events are the log's, and its lines are those of the calls
-record TakenAs (log : List ℕ) (count events : ℕ) : Type 0 where
-  laid : Laid log
-  count-is : count ≡ countOf log
-  events-is : events ≡ eventsAt log
+-- a log that is taken has the lines of its calls
+record TakenAs (log : List ℕ) (taken : Log) : Type 0 where
+  laid : TakenLog log taken
   lines : listing layout lastTick log ≡ callLines layout lastTick log (booted layout (formOf log) imageLent outLent)
 
-taken-as : (log : List ℕ) (count events : ℕ) → record { number = 0; count = count; events = events } ≡ logTold log → TakenAs log count events
+taken-as : (log : List ℕ) (taken : Log) → toldBy (Taken taken) ≡ logTold log → TakenAs log taken
 unfolding listing
-taken-as log count events e = go (log-judged log)
+taken-as log taken e = go (log-judged log)
   where
-    go : Judged (logNumber log) (Laid log) → TakenAs log count events
+    go : Judged (logNumber log) (Laid log) → TakenAs log taken
     go (inl j) =
         let told = e ∙ told-laid log (j .1) in
-        record { laid = j .1; count-is = ap (λ (t : LogTold). t .count) told; events-is = ap (λ (t : LogTold). t .events) told; lines = rw (j .0) }
+        let count : taken .count ≡ countOf log = ap (λ (t : LogTold). t .count) told in
+        let events : taken .events ≡ eventsAt log = ap (λ (t : LogTold). t .events) told in
+        record {
+          laid =
+              record {
+                count = count;
+                events = events;
+                behind = omega (arith, j .1);
+                few = omega (arith, j .1);
+                whole = omega (arith, j .1);
+              };
+          lines = rw (j .0);
+        }
     go (inr j) = absurd (omega (arith, ap (λ (t : LogTold). t .number) (e ∙ told-broken log (j .1))))
 
 -- a log that is refused has the one line
@@ -76,36 +94,32 @@ enum-known-taken : tie.Need-enum-known-taken
 enum-known-taken c = search needs
 
 -- the log in hand is taken
-took : (c : tie.After-taken) → TakenAs (now (c .before .before .before .before .before .before .args .log)) (c .taken .given .0 .0 .count) (c .taken .given .0 .0 .events)
-took c =
-    let log = c .taken .given .0 .0 in
-    taken-as (now (c .before .before .before .before .before .before .args .log)) (log .count) (log .events) (ap toldBy (sym (c .taken .given .1)) ∙ c .before .before .read-log .ensures)
+took : (c : tie.After-taken) →
+    TakenAs (now (c .before .before .before .before .before .before .args .log)) (c .taken .given .0 .0)
+took c = taken-as _ _ (ap toldBy (sym (c .taken .given .1)) ∙ c .before .before .read-log .ensures)
 
 play-calls-requires : tie.Need-play-calls-requires
-play-calls-requires c κs =
-    let t = took (c .before .before) in
-    (omega (arith, t .events-is, t .laid .least), omega (arith, t .count-is, t .laid .few), omega (arith, t .events-is, t .count-is, t .laid .whole), t .events-is, t .count-is, omega arith)
+play-calls-requires c κs = (took (c .before .before) .laid, omega arith)
 
 same-length : tie.Need-same-length
 same-length c = search needs
 
 returns-2 : tie.Need-returns-2
 returns-2 c =
-    let a = c .before .before .before .before .before .before .before .before .before .before .args in
-    let put = c .before .before .put-line .ensures in
-    let bytes : c .before .before .put-line .last .0 ≡ lay (now (a .out)) 0 (line 0 13 0 0 0) = put .2 in
-    played-listed (now (a .log)) (now (a .out)) (c .before .before .before .before .before .before .before .if1 .left)
-    (lines-refused (now (a .log)) (ap toldBy (sym (c .before .before .before .before .enum-told .given .1)) ∙ c .before .before .before .before .before .before .read-log .ensures))
-    (omega (arith, put .0)) bytes
+    let put = c .before .before in
+    let which = put .before .before in
+    let read = which .before .before in
+    let told = ap toldBy (sym (which .enum-told .given .1)) ∙ read .read-log .ensures in
+    played-listed _ (read .before .if1 .left) (lines-refused _ told) (put .put-line .ensures)
 
 same-length-2 : tie.Need-same-length-2
 same-length-2 c = search needs
 
 returns-3 : tie.Need-returns-3
 returns-3 c =
-    let a = c .before .before .before .before .before .before .before .before .before .before .before .args in
-    let calls = c .before .before .play-calls .ensures in
-    played-listed (now (a .log)) (now (a .out)) (c .before .before .before .before .before .before .before .before .if1 .left) (took (c .before .before .before .before .before) .lines) (calls .0) (calls .2)
+    let calls = c .before .before in
+    let taken = calls .before .before .before in
+    played-listed _ (taken .before .before .before .if1 .left) (took taken .lines) (calls .play-calls .ensures)
 
 pub play-spec : {M : Type 1} → statement M
 play-spec =

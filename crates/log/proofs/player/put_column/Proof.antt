@@ -1,15 +1,10 @@
 -- `player::put_column` meets its contract: the space is stored behind the digits.
 -- Assumes nothing.
 use borrow.Author.Needs.{needs}
-use mathlib.Core.Path.{sym, ap₂, _∙_}
-use mathlib.Core.List.{List, [], _∷_}
-use Prim.Native.Nat.{ℕ}
+use mathlib.Core.Path.{refl}
 use native.Mathlib.Omega.{arith}
-use denote.Ref.{now}
-use lib.ListN.{set, length-append}
-use Rattle.log.specs.Decimal.{decimal}
 use Rattle.log.specs.Listing.{column}
-use Rattle.log.proofs.Lays.{lay-snoc}
+use Rattle.log.proofs.Puts.{puts-one, puts-then}
 use Rattle.log.proofs.player.put_column.Statement.{statement}
 use Rattle.log.proofs.player.put_column.Tie as tie
 
@@ -27,13 +22,7 @@ same-length c = search needs
 
 returns : tie.Need-returns
 unfolding column
-returns c =
-    let a = c .before .before .before .before .before .args in
-    let put = c .before .before .put-decimal .ensures in (
-      omega (arith, length-append (decimal (a .n)) (32 ∷ [])),
-      omega arith,
-      ap₂ (λ (l : List ℕ) (at : ℕ). set l at 32) (put .2) (put .0) ∙ sym (lay-snoc (now (a .out)) (a .i) (decimal (a .n)) 32 (omega arith)),
-    )
+returns c = puts-then (omega arith) (c .before .before .put-decimal .ensures) (puts-one (omega arith) refl refl)
 
 pub put-column-spec : {M : Type 1} → statement M
 put-column-spec =

@@ -21,7 +21,9 @@ few c = few-digits (c .decimal .result) (c .before .before .before .args .n) (om
 
 -- the text begins with the number's digits
 text : (c : tie.After-decimal) → take (c .decimal .result) (c .decimal .last .1 .0) ≡ decimal (c .before .before .before .args .n)
-text c = c .decimal .ensures .1 .1 ∙ digits-decimal (c .decimal .result) (c .before .before .before .args .n) (omega (arith, few c)) (c .decimal .ensures .1 .0)
+text c =
+    let n = c .before .before .before .args .n in
+    c .decimal .ensures .1 .1 ∙ digits-decimal (c .decimal .result) n (omega (arith, few c)) (c .decimal .ensures .1 .0)
 
 array-share-prefix-text : tie.Need-array-share-prefix-text
 array-share-prefix-text c = search needs
@@ -41,11 +43,12 @@ same-length c = search needs
 returns : tie.Need-returns
 returns c =
     let a = c .before .before .before .before .before .before .before .before .args in
-    let d = c .before .before .before .before .before in (
-      omega (arith, ap length (text d), d .decimal .ensures .0 .1),
-      omega (arith, few d),
-      c .before .before .put-bytes .ensures ∙ ap (lay (now (a .out)) (a .i)) (text d),
-    )
+    let d = c .before .before .before .before .before in
+    record {
+      behind = omega (arith, ap length (text d), d .decimal .ensures .0 .1);
+      within = omega (arith, few d);
+      left = c .before .before .put-bytes .ensures ∙ ap (lay (now (a .out)) (a .i)) (text d);
+    }
 
 pub put-decimal-spec : {M : Type 1} → statement M
 put-decimal-spec =

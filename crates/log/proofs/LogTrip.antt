@@ -16,10 +16,12 @@ use borrow.Author.Tests.{eqb-true}
 use Rattle.fields.specs.Field.{field, putField, Bytes}
 use Rattle.forms.specs.Form.{WriteTold}
 use Rattle.fields.proofs.Fields.{drop-put, field-same, field-put, field-put-other, length-put}
-use Rattle.forms.specs.Table.{Check, _when_, Given, Says, roomCheck}
-use Rattle.log.specs.Log.{countOf, eventsAt, formOf, eventsOf, logNumber, LogTold, logTold, lay, putLog, logWritten}
+use Rattle.forms.specs.Table.{Check, Given, Says}
+use Rattle.log.specs.Log.{formPlace, eventSize, countOf, formAt, eventsAt, formOf, eventsOf, logNumber}
+use Rattle.log.specs.Log.{LogTold, logTold, lay, logSize, putHead, putLog, logWritten}
+use Rattle.log.specs.Table.{Laid, Fit, logChecks, logWriterChecks}
 use Rattle.log.proofs.Lays.{take-lay, drop-lay-behind, length-lay}
-use Rattle.log.proofs.Logs.{Laid, Fit, Judged, log-judged, judged-holds, told-laid, told-broken, logSize, written-fit, Answer, wrote, short, unfit, answer}
+use Rattle.log.proofs.Logs.{Judged, log-judged, judged-holds, told-laid, told-broken, written-fit, Answer, wrote, short, unfit, answer}
 
 -- ---- laws of stores
 
@@ -36,39 +38,35 @@ take-put (suc w) out b i h p q e =
 
 -- ---- the bytes that the writer leaves
 
--- the output with the three fields that stand in front of the form
-abbrev fronted : List ℕ → List ℕ → List ℕ → List ℕ
-fronted form events out = putField 4 (putField 4 (putField 4 out 0 (length events / 12)) 4 12) 8 (12 + length form)
-
 module _ (form events out : List ℕ) (room : logSize form events ≤ length out) where
   abbrev front : List ℕ
-  front = fronted form events out
+  front = putHead out form events
 
   long : length front ≡ length out
   long = simp length-put
 
-  long-form : length (lay front 12 form) ≡ length out
-  long-form = length-lay front 12 form (omega (arith, long)) ∙ long
+  long-form : length (lay front formPlace form) ≡ length out
+  long-form = length-lay front formPlace form (omega (arith, long)) ∙ long
 
   -- behind the fields stands the form, and behind that the events
-  take-log : take (logSize form events) (putLog out form events) ≡ take 12 front ++ form ++ events
+  take-log : take (logSize form events) (putLog out form events) ≡ take formPlace front ++ form ++ events
   unfolding putLog
   take-log =
-      take-lay (lay front 12 form) (12 + length form) events (omega (arith, long-form))
-      ∙ ap (λ (l : List ℕ). l ++ events) (take-lay front 12 form (omega (arith, long)))
+      take-lay (lay front formPlace form) (formPlace + length form) events (omega (arith, long-form))
+      ∙ ap (λ (l : List ℕ). l ++ events) (take-lay front formPlace form (omega (arith, long)))
 
   drop-log : drop (logSize form events) (putLog out form events) ≡ drop (logSize form events) out
   unfolding putLog
   drop-log =
-      drop-lay-behind (lay front 12 form) (12 + length form) events (logSize form events) (omega arith) (omega (arith, long-form))
-      ∙ drop-lay-behind front 12 form (logSize form events) (omega arith) (omega (arith, long))
-      ∙ drop-put 4 _ 8 (12 + length form) (logSize form events) (omega arith)
-      ∙ drop-put 4 _ 4 12 (logSize form events) (omega arith)
-      ∙ drop-put 4 out 0 (length events / 12) (logSize form events) (omega arith)
+      drop-lay-behind (lay front formPlace form) (formPlace + length form) events (logSize form events) (omega arith) (omega (arith, long-form))
+      ∙ drop-lay-behind front formPlace form (logSize form events) (omega arith) (omega (arith, long))
+      ∙ drop-put 4 _ 8 (formPlace + length form) (logSize form events) (omega arith)
+      ∙ drop-put 4 _ 4 formPlace (logSize form events) (omega arith)
+      ∙ drop-put 4 out 0 (length events / eventSize) (logSize form events) (omega arith)
 
   length-log : length (putLog out form events) ≡ length out
   unfolding putLog
-  length-log = length-lay (lay front 12 form) (12 + length form) events (omega (arith, long-form)) ∙ long-form
+  length-log = length-lay (lay front formPlace form) (formPlace + length form) events (omega (arith, long-form)) ∙ long-form
 
 -- ---- what is written reads back
 
@@ -91,45 +89,45 @@ module _ (form events out : List ℕ) (ok : logWritten form events out .number �
   room = done (answer form events out) ok .1
 
   log : List ℕ
-  log = take 12 (fronted form events out) ++ form ++ events
+  log = take formPlace (putHead out form events) ++ form ++ events
 
   -- every byte of the log: fields, form, events
   bytes-log : bytesOf (logWritten form events out) ≡ log
   unfolding log
   bytes-log = ap bytesOf (written-fit form events out fit room) ∙ take-log form events out room
 
-  ahead : length (take 12 (fronted form events out)) ≡ 12
-  ahead = length-take-le 12 (fronted form events out) (omega (arith, room, long form events out room))
+  ahead : length (take formPlace (putHead out form events)) ≡ formPlace
+  ahead = length-take-le formPlace (putHead out form events) (omega (arith, room, long form events out room))
 
-  ahead-form : length (take 12 (fronted form events out) ++ form) ≡ 12 + length form
-  ahead-form = omega (arith, length-append (take 12 (fronted form events out)) form, ahead)
+  ahead-form : length (take formPlace (putHead out form events) ++ form) ≡ formPlace + length form
+  ahead-form = omega (arith, length-append (take formPlace (putHead out form events)) form, ahead)
 
   -- a field in front of the form
-  header : (i : ℕ) → i + 4 ≤ 12 → field 4 log i ≡ field 4 (fronted form events out) i
+  header : (i : ℕ) → i + 4 ≤ formPlace → field 4 log i ≡ field 4 (putHead out form events) i
   unfolding log
-  header i p = field-same 4 log (fronted form events out) i i (λ k q. each (i + k) (omega arith))
+  header i p = field-same 4 log (putHead out form events) i i (λ k q. each (i + k) (omega arith))
     where
-      each : (j : ℕ) → j < 12 → getD log j 0 ≡ getD (fronted form events out) j 0
+      each : (j : ℕ) → j < formPlace → getD log j 0 ≡ getD (putHead out form events) j 0
       each j q =
-          List·getD-append (take 12 (fronted form events out) ++ form) events 0 j (omega (arith, ahead-form))
-          ∙ List·getD-append (take 12 (fronted form events out)) form 0 j (omega (arith, ahead))
-          ∙ getD-take 12 (fronted form events out) j 0 q
+          List·getD-append (take formPlace (putHead out form events) ++ form) events 0 j (omega (arith, ahead-form))
+          ∙ List·getD-append (take formPlace (putHead out form events)) form 0 j (omega (arith, ahead))
+          ∙ getD-take formPlace (putHead out form events) j 0 q
 
-  count-back : countOf log ≡ length events / 12
+  count-back : countOf log ≡ length events / eventSize
   count-back =
       header 0 (omega arith)
-      ∙ field-put-other 4 4 _ 8 (12 + length form) 0 (omega arith)
-      ∙ field-put-other 4 4 _ 4 12 0 (omega arith)
-      ∙ field-put 4 out 0 (length events / 12) (omega (arith, room)) (omega (arith, fit))
+      ∙ field-put-other 4 4 _ 8 (formPlace + length form) 0 (omega arith)
+      ∙ field-put-other 4 4 _ 4 formPlace 0 (omega arith)
+      ∙ field-put 4 out 0 (length events / eventSize) (omega (arith, room)) (omega (arith, fit))
 
-  offset-back : field 4 log 4 ≡ 12
+  offset-back : formAt log ≡ formPlace
   offset-back =
       header 4 (omega arith)
-      ∙ field-put-other 4 4 _ 8 (12 + length form) 4 (omega arith)
-      ∙ field-put 4 _ 4 12 (simp length-put (omega (arith, room))) (omega arith)
+      ∙ field-put-other 4 4 _ 8 (formPlace + length form) 4 (omega arith)
+      ∙ field-put 4 _ 4 formPlace (simp length-put (omega (arith, room))) (omega arith)
 
-  events-at-back : eventsAt log ≡ 12 + length form
-  events-at-back = header 8 (omega arith) ∙ field-put 4 _ 8 (12 + length form) (simp length-put (omega (arith, room))) (omega (arith, fit))
+  events-at-back : eventsAt log ≡ formPlace + length form
+  events-at-back = header 8 (omega arith) ∙ field-put 4 _ 8 (formPlace + length form) (simp length-put (omega (arith, room))) (omega (arith, fit))
 
   laid : Laid log
   unfolding log
@@ -139,7 +137,7 @@ module _ (form events out : List ℕ) (ok : logWritten form events out .number �
         least = omega (arith, events-at-back, fit);
         most = omega (arith, events-at-back, fit);
         few = omega (arith, count-back, fit);
-        whole = omega (arith, length-append (take 12 (fronted form events out) ++ form) events, ahead-form, events-at-back, count-back, fit);
+        whole = omega (arith, length-append (take formPlace (putHead out form events) ++ form) events, ahead-form, events-at-back, count-back, fit);
       }
 
   -- the length of both parts and 12 is written
@@ -147,7 +145,7 @@ module _ (form events out : List ℕ) (ok : logWritten form events out .number �
   log-written = ap (λ (t : WriteTold). t .written) (written-fit form events out fit room)
 
   -- its bytes are read back with the count of events and where they begin
-  pub log-read-back : logTold (bytesOf (logWritten form events out)) ≡ record { number = 0; count = length events / 12; events = 12 + length form }
+  pub log-read-back : logTold (bytesOf (logWritten form events out)) ≡ record { number = 0; count = length events / eventSize; events = formPlace + length form }
   log-read-back =
       ap logTold bytes-log
       ∙ told-laid log laid
@@ -157,14 +155,14 @@ module _ (form events out : List ℕ) (ok : logWritten form events out .number �
   pub form-read-back : formOf (bytesOf (logWritten form events out)) ≡ form
   unfolding formOf log
   form-read-back =
-      rw (bytes-log, events-at-back, append-assoc, drop-at (take 12 (fronted form events out)) (form ++ events) 12 ahead)
-      (take-at form events (12 + length form - 12) (omega arith))
+      rw (bytes-log, events-at-back, append-assoc, drop-at (take formPlace (putHead out form events)) (form ++ events) formPlace ahead)
+      (take-at form events (formPlace + length form - formPlace) (omega arith))
 
   -- and with the events
   pub events-read-back : eventsOf (bytesOf (logWritten form events out)) ≡ events
   unfolding eventsOf log
   events-read-back =
-      rw (bytes-log, events-at-back) (drop-at (take 12 (fronted form events out) ++ form) events (12 + length form) ahead-form)
+      rw (bytes-log, events-at-back) (drop-at (take formPlace (putHead out form events) ++ form) events (formPlace + length form) ahead-form)
 
 -- bytes behind what is written stay, and so does the length, whatever the number
 pub log-kept : (form events out : List ℕ) →
@@ -192,11 +190,11 @@ log-refused form events out = go (answer form events out)
 
 -- a log that the reader took
 module _ (b : List ℕ) (l : Laid b) where
-  length-form : 12 + length (formOf b) ≡ eventsAt b
+  length-form : formPlace + length (formOf b) ≡ eventsAt b
   unfolding formOf
-  length-form = omega (arith, length-take-le (eventsAt b - 12) (drop 12 b) (omega (arith, length-drop 12 b)))
+  length-form = omega (arith, length-take-le (eventsAt b - formPlace) (drop formPlace b) (omega (arith, length-drop formPlace b)))
 
-  length-events : length (eventsOf b) ≡ 12 * countOf b
+  length-events : length (eventsOf b) ≡ eventSize * countOf b
   unfolding eventsOf
   length-events = omega (arith, length-drop (eventsAt b) b)
 
@@ -214,17 +212,17 @@ module _ (b : List ℕ) (l : Laid b) where
   size-again = omega (arith, length-form, length-events)
 
   -- it is its fields, its form and its events
-  parts : take 12 b ++ formOf b ++ eventsOf b ≡ b
+  parts : take formPlace b ++ formOf b ++ eventsOf b ≡ b
   unfolding formOf eventsOf
   parts =
-      let e : 12 + (eventsAt b - 12) ≡ eventsAt b = omega arith in
-      ap (λ (x : List ℕ). x ++ drop (eventsAt b) b) (sym (take-add 12 (eventsAt b - 12) b) ∙ ap (λ (n : ℕ). take n b) e) ∙ take-append-drop (eventsAt b) b
+      let e : formPlace + (eventsAt b - formPlace) ≡ eventsAt b = omega arith in
+      ap (λ (x : List ℕ). x ++ drop (eventsAt b) b) (sym (take-add formPlace (eventsAt b - formPlace) b) ∙ ap (λ (n : ℕ). take n b) e) ∙ take-append-drop (eventsAt b) b
 
   -- its fields are written again
-  front-again : Bytes b → (out : List ℕ) → length b ≤ length out → take 12 (fronted (formOf b) (eventsOf b) out) ≡ take 12 b
+  front-again : Bytes b → (out : List ℕ) → length b ≤ length out → take formPlace (putHead out (formOf b) (eventsOf b)) ≡ take formPlace b
   front-again h out p =
-      ap₂ (λ (n e : ℕ). take 12 (putField 4 (putField 4 (putField 4 out 0 n) 4 12) 8 e)) (omega (arith, length-events)) length-form
-      ∙ ap (λ (v : ℕ). take 12 (putField 4 (putField 4 (putField 4 out 0 (countOf b)) 4 v) 8 (eventsAt b))) (sym (l .form))
+      ap₂ (λ (n e : ℕ). take formPlace (putField 4 (putField 4 (putField 4 out 0 n) 4 formPlace) 8 e)) (omega (arith, length-events)) length-form
+      ∙ ap (λ (v : ℕ). take formPlace (putField 4 (putField 4 (putField 4 out 0 (countOf b)) 4 v) 8 (eventsAt b))) (sym (l .form))
       ∙ take-put 4 _ b 8 h (simp length-put (omega arith)) (omega arith)
       (take-put 4 _ b 4 h (simp length-put (omega arith)) (omega arith) (take-put 4 out b 0 h (omega arith) (omega arith) refl))
 
@@ -272,19 +270,19 @@ says number checks g =
     record { exactly = λ k. (λ e. subst (λ (m : ℕ). Given checks m) e g, given-one checks number k g) }
 
 -- the log reader's number is 13 where the layout is broken
-pub log-says : (b : List ℕ) → Says (logTold b .number) (13 when (Laid b → ⊥) ∷ [])
+pub log-says : (b : List ℕ) → Says (logTold b .number) (logChecks b)
 log-says b = go (log-judged b)
   where
-    go : {n : ℕ} → Judged n (Laid b) → Says (logTold b .number) (13 when (Laid b → ⊥) ∷ [])
+    go : {n : ℕ} → Judged n (Laid b) → Says (logTold b .number) (logChecks b)
     go (inl j) = rw (told-laid b (j .1)) (says 0 _ (λ n. n (j .1), refl))
     go (inr j) = rw (told-broken b (j .1)) (says 13 _ (j .1))
 
 -- the log writer's number is 13 for the parts, and 7 last
 pub log-writer-says : (form events out : List ℕ) →
-    Says (logWritten form events out .number) (13 when (Fit form events → ⊥) ∷ roomCheck (logSize form events) out ∷ [])
+    Says (logWritten form events out .number) (logWriterChecks form events out)
 log-writer-says form events out = go (answer form events out)
   where
-    go : {told : WriteTold} → Answer form events out told → Says (told .number) (13 when (Fit form events → ⊥) ∷ roomCheck (logSize form events) out ∷ [])
+    go : {told : WriteTold} → Answer form events out told → Says (told .number) (logWriterChecks form events out)
     go (wrote f p) = says 0 _ (λ n. n f, (omega arith, refl))
     go (short f p) = says 7 _ (λ n. n f, p)
     go (unfit n) = says 13 _ n

@@ -11,24 +11,10 @@ use native.Mathlib.Omega.{arith}
 use lib.ListN.{length}
 use lib.Dec.{ltb, eqb}
 use borrow.Author.Tests.{ltb-true, ltb-false, eqb-true, eqb-false, lt-ltb, le-ltb}
-use Rattle.fields.specs.Field.{field}
 use Rattle.forms.specs.Form.{WriteTold}
-use Rattle.log.specs.Log.{countOf, eventsAt, logNumber, logTold, writeNumber, putLog, logWritten}
-
--- the layout of a log
-pub record Laid (b : List ℕ) : Type 0 where
-  pub form : field 4 b 4 ≡ 12
-  pub least : 20 ≤ eventsAt b
-  pub most : eventsAt b ≤ 1012
-  pub few : countOf b ≤ 4096
-  pub whole : length b ≡ eventsAt b + 12 * countOf b
-
--- form bytes and event bytes that the writer takes
-pub record Fit (form events : List ℕ) : Type 0 where
-  pub least : 8 ≤ length form
-  pub most : length form ≤ 1000
-  pub whole : length events % 12 ≡ 0
-  pub few : length events / 12 ≤ 4096
+use Rattle.log.specs.Log.{formPlace, eventSize, mostEvents, leastForm, mostForm, leastOffset, mostOffset}
+use Rattle.log.specs.Log.{countOf, formAt, eventsAt, logNumber, logTold, writeNumber, logSize, putLog, logWritten}
+use Rattle.log.specs.Table.{Laid, Fit}
 
 -- ---- the numbers
 
@@ -39,12 +25,13 @@ Judged number Holds = ((number ≡ 0) × Holds) ⊎ ((number ≡ 13) × (Holds �
 pub log-judged : (b : List ℕ) → Judged (logNumber b) (Laid b)
 unfolding logNumber
 log-judged b =
-    go (ltb (length b) 12) refl (eqb (field 4 b 4) 12) refl (ltb (eventsAt b) 20) refl (ltb 1012 (eventsAt b)) refl (ltb 4096 (countOf b)) refl
-    (eqb (length b) (eventsAt b + 12 * countOf b)) refl
+    go (ltb (length b) formPlace) refl (eqb (formAt b) formPlace) refl (ltb (eventsAt b) leastOffset) refl (ltb mostOffset (eventsAt b)) refl
+    (ltb mostEvents (countOf b)) refl (eqb (length b) (eventsAt b + eventSize * countOf b)) refl
   where
-    go : (t₁ : Bool) → ltb (length b) 12 ≡ t₁ → (t₂ : Bool) → eqb (field 4 b 4) 12 ≡ t₂ → (t₃ : Bool) → ltb (eventsAt b) 20 ≡ t₃ →
-        (t₄ : Bool) → ltb 1012 (eventsAt b) ≡ t₄ → (t₅ : Bool) → ltb 4096 (countOf b) ≡ t₅ →
-        (t₆ : Bool) → eqb (length b) (eventsAt b + 12 * countOf b) ≡ t₆ → Judged (cond (t₁ || not t₂ || t₃ || t₄ || t₅ || not t₆) 13 0) (Laid b)
+    go : (t₁ : Bool) → ltb (length b) formPlace ≡ t₁ → (t₂ : Bool) → eqb (formAt b) formPlace ≡ t₂ →
+        (t₃ : Bool) → ltb (eventsAt b) leastOffset ≡ t₃ → (t₄ : Bool) → ltb mostOffset (eventsAt b) ≡ t₄ →
+        (t₅ : Bool) → ltb mostEvents (countOf b) ≡ t₅ → (t₆ : Bool) → eqb (length b) (eventsAt b + eventSize * countOf b) ≡ t₆ →
+        Judged (cond (t₁ || not t₂ || t₃ || t₄ || t₅ || not t₆) 13 0) (Laid b)
     go true e₁ t₂ e₂ t₃ e₃ t₄ e₄ t₅ e₅ t₆ e₆ = inr (refl, λ l. omega (arith, ltb-true))
     go false e₁ false e₂ t₃ e₃ t₄ e₄ t₅ e₅ t₆ e₆ = inr (refl, λ l. eqb-false _ _ e₂ (l .form))
     go false e₁ true e₂ true e₃ t₄ e₄ t₅ e₅ t₆ e₆ = inr (refl, λ l. omega (arith, ltb-true))
@@ -66,10 +53,12 @@ log-judged b =
 pub write-judged : (form events : List ℕ) → Judged (writeNumber form events) (Fit form events)
 unfolding writeNumber
 write-judged form events =
-    go (ltb (length form) 8) refl (ltb 1000 (length form)) refl (eqb (length events % 12) 0) refl (ltb 49152 (length events)) refl
+    go (ltb (length form) leastForm) refl (ltb mostForm (length form)) refl (eqb (length events % eventSize) 0) refl
+    (ltb (eventSize * mostEvents) (length events)) refl
   where
-    go : (t₁ : Bool) → ltb (length form) 8 ≡ t₁ → (t₂ : Bool) → ltb 1000 (length form) ≡ t₂ → (t₃ : Bool) → eqb (length events % 12) 0 ≡ t₃ →
-        (t₄ : Bool) → ltb 49152 (length events) ≡ t₄ → Judged (cond (t₁ || t₂ || not t₃ || t₄) 13 0) (Fit form events)
+    go : (t₁ : Bool) → ltb (length form) leastForm ≡ t₁ → (t₂ : Bool) → ltb mostForm (length form) ≡ t₂ →
+        (t₃ : Bool) → eqb (length events % eventSize) 0 ≡ t₃ → (t₄ : Bool) → ltb (eventSize * mostEvents) (length events) ≡ t₄ →
+        Judged (cond (t₁ || t₂ || not t₃ || t₄) 13 0) (Fit form events)
     go true e₁ t₂ e₂ t₃ e₃ t₄ e₄ = inr (refl, λ l. omega (arith, ltb-true))
     go false e₁ true e₂ t₃ e₃ t₄ e₄ = inr (refl, λ l. omega (arith, ltb-true))
     go false e₁ false e₂ false e₃ t₄ e₄ = inr (refl, λ l. eqb-false _ _ e₃ (l .whole))
@@ -109,10 +98,6 @@ module _ (b : List ℕ) where
   pub told-broken : (Laid b → ⊥) → logTold b ≡ record { number = 13; count = 0; events = 0 }
   unfolding logTold
   told-broken n = rw (judged-broken (log-judged b) n)
-
--- the length of a log with these parts
-abbrev pub logSize : List ℕ → List ℕ → ℕ
-logSize form events = 12 + length form + length events
 
 module _ (form events out : List ℕ) where
   pub written-fit : Fit form events → logSize form events ≤ length out →

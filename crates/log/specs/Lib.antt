@@ -3,3 +3,4 @@ pub mod Listing
 pub mod Log
 pub mod Played
 pub mod Puts
+pub mod Table

@@ -7,19 +7,35 @@ use lib.ListN.{length, take, drop, replicate}
 use lib.Dec.{ltb, eqb}
 use Rattle.fields.specs.Field.{field}
 use Rattle.forms.specs.Form.{WriteTold}
+use Rattle.forms.specs.Frame.{frameSize}
+use Rattle.forms.specs.Roster.{mostLines}
+use Rattle.rules.specs.Describe.{room}
 use Rattle.node.specs.Calls.{Outcome, booted, deliverOutcome}
-use Rattle.node.specs.Image.{Layout, nodeOf}
+use Rattle.node.specs.Image.{Layout, layout, imageSize, nodeOf}
 use Rattle.log.specs.Decimal.{decimal}
-use Rattle.log.specs.Log.{eventSize, mostEvents, countOf, eventsAt, formOf, logNumber, lay}
+use Rattle.log.specs.Log.{framePlace, eventSize, mostEvents, countOf, eventsAt, formOf, logNumber, lay}
+
+-- ---- characters
+
+abbrev pub blank : ℕ
+blank = 32
 
 abbrev pub newline : ℕ
 newline = 10
+
+abbrev pub letterP : ℕ
+letterP = 112
+
+abbrev pub letterA : ℕ
+letterA = 97
+
+-- ---- the most bytes of each part
 
 -- a number of 32 bits has at most ten digits
 abbrev pub mostDigits : ℕ
 mostDigits = 10
 
--- a column is a number and a space
+-- a column is a number and a blank
 abbrev pub columnRoom : ℕ
 columnRoom = mostDigits + 1
 
@@ -27,12 +43,18 @@ columnRoom = mostDigits + 1
 abbrev pub lineRoom : ℕ
 lineRoom = 4 * columnRoom + 2
 
+-- a listing is boot's line and the events'
+abbrev pub listingRoom : ℕ
+listingRoom = (mostEvents + 1) * lineRoom
+
+-- ---- the lines
+
 unfoldable pub column : ℕ → List ℕ
-column n = decimal n ++ (32 ∷ [])
+column n = decimal n ++ (blank ∷ [])
 
 -- p for a passive node, a for an active one
 unfoldable pub modeLetter : ℕ → ℕ
-modeLetter mode = cond (eqb mode 0) 112 97
+modeLetter mode = cond (eqb mode 0) letterP letterA
 
 unfoldable pub line : ℕ → ℕ → ℕ → ℕ → ℕ → List ℕ
 line event number records k mode =
@@ -42,9 +64,9 @@ line event number records k mode =
 unfoldable pub lineOf : ℕ → Outcome → List ℕ
 lineOf event o = line event (o .number) (o .records) (nodeOf (o .image) .tick) (nodeOf (o .image) .mode)
 
--- the call of an event: port serial (4) and frame (8) at place i of the log
+-- the call of an event at place i of the log: port serial and frame
 unfoldable pub eventCall : Layout → ℕ → List ℕ → ℕ → List ℕ → List ℕ → Outcome
-eventCall L last log i image out = deliverOutcome L last image (field 4 log i) (take 8 (drop (i + 4) log)) out
+eventCall L last log i image out = deliverOutcome L last image (field 4 log i) (take frameSize (drop (i + framePlace) log)) out
 
 -- the lines of c events from place i of the log on, the first of them number e, on an image and an output
 unfoldable pub eventLines : Layout → ℕ → List ℕ → ℕ → ℕ → ℕ → List ℕ → List ℕ → List ℕ
@@ -53,12 +75,12 @@ eventLines L last log (suc c) i e image out =
     lineOf e (eventCall L last log i image out)
     ++ eventLines L last log c (i + eventSize) (e + 1) (eventCall L last log i image out .image) (eventCall L last log i image out .out)
 
--- the buffers that the player lends to the calls: room for 32 rows, and for 16 records
+-- the buffers that the player lends to the calls: room for every image, and for every call's records
 abbrev pub imageLent : List ℕ
-imageLent = replicate 928 0
+imageLent = replicate (imageSize layout mostLines) 0
 
 abbrev pub outLent : List ℕ
-outLent = replicate 192 0
+outLent = replicate room 0
 
 -- boot's line, and where the form is taken the lines of the events
 unfoldable pub callLines : Layout → ℕ → List ℕ → Outcome → List ℕ
@@ -70,9 +92,6 @@ unfoldable pub listing : Layout → ℕ → List ℕ → List ℕ
 listing L last log = cond (eqb (logNumber log) 0) (callLines L last log (booted L (formOf log) imageLent outLent)) (line 0 13 0 0 0)
 
 -- ---- the player: 7 where the room lent is less than 4,097 lines of 46 bytes, which every listing fits: four numbers of 32 bits
-
-abbrev pub listingRoom : ℕ
-listingRoom = (mostEvents + 1) * lineRoom
 
 unfoldable pub played : Layout → ℕ → List ℕ → List ℕ → WriteTold
 played L last log out =

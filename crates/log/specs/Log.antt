@@ -3,7 +3,7 @@
 -- are not judged here.
 use Prim.Native.Nat.{ℕ, _+_, _-_, _*_, _/_, _%_}
 use mathlib.Core.List.{List, _++_}
-use mathlib.Core.Bool.{Bool, cond, not, _||_}
+use mathlib.Core.Bool.{cond, not, _||_}
 use lib.ListN.{length, take, drop}
 use lib.Dec.{ltb, eqb}
 use Rattle.fields.specs.Field.{field, putField}
@@ -14,29 +14,52 @@ use Rattle.log.specs.declared.file.LogRead.the-variants.{Taken, Refused}
 use Rattle.log.specs.declared.file.LogWritten.{LogWritten}
 use Rattle.log.specs.declared.file.LogWritten.the-variants.{Wrote, Broken, NoRoom}
 
--- ---- sizes and limits
+-- ---- places, sizes and limits
 
--- the form stands behind the three numbers
+-- the form stands behind the three numbers: 12
 abbrev pub formPlace : ℕ
 formPlace = 12
 
--- bytes of an event: port serial and frame
+-- in an event the frame stands behind the port serial
+abbrev pub framePlace : ℕ
+framePlace = 4
+
+-- bytes of an event: 12
 abbrev pub eventSize : ℕ
-eventSize = 4 + frameSize
+eventSize = framePlace + frameSize
 
 abbrev pub mostEvents : ℕ
 mostEvents = 4096
+
+-- a form has 8 to 1,000 bytes
+abbrev pub leastForm : ℕ
+leastForm = 8
+
+abbrev pub mostForm : ℕ
+mostForm = 1000
+
+-- so the events begin at 20 to 1,012
+abbrev pub leastOffset : ℕ
+leastOffset = formPlace + leastForm
+
+abbrev pub mostOffset : ℕ
+mostOffset = formPlace + mostForm
 
 -- ---- the fields and parts as they lie in the bytes
 
 abbrev pub countOf : List ℕ → ℕ
 countOf b = field 4 b 0
 
+-- the offset of the form
+abbrev pub formAt : List ℕ → ℕ
+formAt b = field 4 b 4
+
+-- the offset e of the events
 abbrev pub eventsAt : List ℕ → ℕ
 eventsAt b = field 4 b 8
 
 unfoldable pub formOf : List ℕ → List ℕ
-formOf b = take (eventsAt b - 12) (drop 12 b)
+formOf b = take (eventsAt b - formPlace) (drop formPlace b)
 
 unfoldable pub eventsOf : List ℕ → List ℕ
 eventsOf b = drop (eventsAt b) b
@@ -45,8 +68,8 @@ eventsOf b = drop (eventsAt b) b
 unfoldable pub logNumber : List ℕ → ℕ
 logNumber b =
     cond
-    (ltb (length b) 12 || not (eqb (field 4 b 4) 12) || ltb (eventsAt b) 20 || ltb 1012 (eventsAt b) || ltb 4096 (countOf b)
-    || not (eqb (length b) (eventsAt b + 12 * countOf b)))
+    (ltb (length b) formPlace || not (eqb (formAt b) formPlace) || ltb (eventsAt b) leastOffset || ltb mostOffset (eventsAt b)
+    || ltb mostEvents (countOf b) || not (eqb (length b) (eventsAt b + eventSize * countOf b)))
     13 0
 
 -- ---- the reader
@@ -72,22 +95,32 @@ toldBy Refused = record { number = 13; count = 0; events = 0 }
 -- 13: form not 8 to 1,000 bytes, events not a multiple of 12 bytes, or more than 4,096
 unfoldable pub writeNumber : List ℕ → List ℕ → ℕ
 writeNumber form events =
-    cond (ltb (length form) 8 || ltb 1000 (length form) || not (eqb (length events % 12) 0) || ltb 49152 (length events)) 13 0
+    cond
+    (ltb (length form) leastForm || ltb mostForm (length form) || not (eqb (length events % eventSize) 0)
+    || ltb (eventSize * mostEvents) (length events))
+    13 0
+
+-- the length of a log with these parts
+abbrev pub logSize : List ℕ → List ℕ → ℕ
+logSize form events = formPlace + length form + length events
 
 -- bytes laid over a list from place i on; what stands behind stays
 unfoldable pub lay : List ℕ → ℕ → List ℕ → List ℕ
 lay out i bytes = take i out ++ bytes ++ drop (i + length bytes) out
 
+-- the three numbers in front of the form
+abbrev pub putHead : List ℕ → List ℕ → List ℕ → List ℕ
+putHead out form events = putField 4 (putField 4 (putField 4 out 0 (length events / eventSize)) 4 formPlace) 8 (formPlace + length form)
+
 unfoldable pub putLog : List ℕ → List ℕ → List ℕ → List ℕ
-putLog out form events =
-    lay (lay (putField 4 (putField 4 (putField 4 out 0 (length events / 12)) 4 12) 8 (12 + length form)) 12 form) (12 + length form) events
+putLog out form events = lay (lay (putHead out form events) formPlace form) (formPlace + length form) events
 
 -- 13, then 7 when the output is shorter than what would be written; a refusal changes no byte
 unfoldable pub logWritten : List ℕ → List ℕ → List ℕ → WriteTold
 logWritten form events out =
     cond (eqb (writeNumber form events) 0)
-    (cond (ltb (length out) (12 + length form + length events)) (record { number = 7; written = 0; out = out })
-    (record { number = 0; written = 12 + length form + length events; out = putLog out form events }))
+    (cond (ltb (length out) (logSize form events)) (record { number = 7; written = 0; out = out })
+    (record { number = 0; written = logSize form events; out = putLog out form events }))
     (record { number = writeNumber form events; written = 0; out = out })
 
 abbrev pub writtenBy : LogWritten → List ℕ → WriteTold

@@ -1,10 +1,38 @@
 // The reader and the writer of a log.
 use fields::field::put_word;
 use fields::field::word;
+use forms::frame::FRAME;
 ghost use mathlib.Core.Path.{_≡_};
 ghost use Prim.Native.Nat.{_+_, _≤_};
 ghost use lib.ListN.{length};
 ghost use Rattle.log.specs.Log.{toldBy, logTold, lay, writtenBy, logWritten};
+
+// Where the form stands, behind the count and the two offsets; and the same as a field of the log.
+pub const FORM_PLACE: usize = 12;
+
+const FORM_OFFSET: u32 = FORM_PLACE as u32;
+
+// Where the frame stands in an event, behind the port serial; and the bytes of an event: 12.
+pub const FRAME_PLACE: usize = 4;
+
+pub const EVENT_SIZE: usize = FRAME_PLACE + FRAME;
+
+// The most events, and their bytes.
+pub const MOST_EVENTS: u32 = 4096;
+
+const MOST_EVENT_BYTES: usize = MOST_EVENTS as usize * EVENT_SIZE;
+
+// A form has 8 to 1,000 bytes, so the events begin at 20 to 1,012.
+const LEAST_FORM: usize = 8;
+
+const MOST_FORM: usize = 1000;
+
+const LEAST_OFFSET: u32 = (FORM_PLACE + LEAST_FORM) as u32;
+
+const MOST_OFFSET: u32 = (FORM_PLACE + MOST_FORM) as u32;
+
+// The longest log: 50,164 bytes.
+pub const LONGEST: usize = FORM_PLACE + MOST_FORM + MOST_EVENT_BYTES;
 
 // A log that is taken: how many events, and where they begin. The form stands from 12 to there.
 pub struct Log {
@@ -21,24 +49,24 @@ pub enum LogRead {
 pub fn read_log(b: &[u8]) -> LogRead
     ensures { λ r. ⌜ toldBy r ≡ logTold (now (b .entry)) ⌝ }
 {
-    if b.len() < 12 {
+    if b.len() < FORM_PLACE {
         return LogRead::Refused;
     }
     let count = word(b, 0);
     let events = word(b, 8);
-    if word(b, 4) != 12 {
+    if word(b, 4) != FORM_OFFSET {
         return LogRead::Refused;
     }
-    if events < 20 {
+    if events < LEAST_OFFSET {
         return LogRead::Refused;
     }
-    if 1012 < events {
+    if MOST_OFFSET < events {
         return LogRead::Refused;
     }
-    if 4096 < count {
+    if MOST_EVENTS < count {
         return LogRead::Refused;
     }
-    if b.len() != events as usize + 12 * (count as usize) {
+    if b.len() != events as usize + EVENT_SIZE * (count as usize) {
         return LogRead::Refused;
     }
     LogRead::Taken(Log { count, events })
@@ -68,27 +96,27 @@ pub(crate) fn put_bytes(out: &mut [u8], i: usize, bytes: &[u8])
 pub fn write_log(form: &[u8], events: &[u8], out: &mut [u8]) -> LogWritten
     ensures { λ r. ⌜ writtenBy r (now (out .exit)) ≡ logWritten (now (form .entry)) (now (events .entry)) (now (out .entry)) ⌝ }
 {
-    if form.len() < 8 {
+    if form.len() < LEAST_FORM {
         return LogWritten::Broken;
     }
-    if 1000 < form.len() {
+    if MOST_FORM < form.len() {
         return LogWritten::Broken;
     }
-    if events.len() % 12 != 0 {
+    if events.len() % EVENT_SIZE != 0 {
         return LogWritten::Broken;
     }
-    if 49152 < events.len() {
+    if MOST_EVENT_BYTES < events.len() {
         return LogWritten::Broken;
     }
-    let start = 12 + form.len();
+    let start = FORM_PLACE + form.len();
     let size = start + events.len();
     if out.len() < size {
         return LogWritten::NoRoom;
     }
-    put_word(out, 0, (events.len() / 12) as u32);
-    put_word(out, 4, 12);
+    put_word(out, 0, (events.len() / EVENT_SIZE) as u32);
+    put_word(out, 4, FORM_OFFSET);
     put_word(out, 8, start as u32);
-    put_bytes(out, 12, form);
+    put_bytes(out, FORM_PLACE, form);
     put_bytes(out, start, events);
     LogWritten::Wrote(size)
 }

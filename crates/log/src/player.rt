@@ -1,10 +1,15 @@
 // The player: a log in, its listing out, in bytes lent by the caller. All that the program prints is made here.
+use crate::file::EVENT_SIZE;
+use crate::file::FORM_PLACE;
+use crate::file::FRAME_PLACE;
 use crate::file::Log;
 use crate::file::LogRead;
+use crate::file::MOST_EVENTS;
 use crate::file::put_bytes;
 use crate::file::read_log;
 use fields::field::word;
 use node::face::Answer;
+use node::face::ROOM;
 use node::face::pebrassola_boot;
 use node::face::pebrassola_deliver;
 ghost use mathlib.Core.Path.{_≡_};
@@ -22,8 +27,24 @@ ghost use Rattle.log.specs.Log.{formOf};
 ghost use Rattle.log.specs.Played.{playedBy, TakenLog, CallShown, EventAsked, EventsAsked};
 ghost use Rattle.log.specs.Puts.{Puts};
 
+// The most digits of a number of 32 bits, and those that the kit asks room for.
+const MOST_DIGITS: usize = 10;
+
+const DIGITS_ASKED: usize = 20;
+
+// The most bytes of a line: four numbers with a blank each, the mode and the newline.
+const LINE_ROOM: usize = 4 * (MOST_DIGITS + 1) + 2;
+
 // Room for every listing: 4,097 lines of at most 46 bytes.
-pub const ROOM: usize = 188462;
+pub const LISTING_ROOM: usize = (MOST_EVENTS as usize + 1) * LINE_ROOM;
+
+// Room for every image: 32 bytes and 28 for each of 32 lines.
+const IMAGE_ROOM: usize = 928;
+
+// Where k and the mode stand in an image.
+const K_PLACE: usize = 8;
+
+const MODE_PLACE: usize = 2;
 
 pub enum Played {
     // the length of the listing
@@ -37,7 +58,7 @@ fn put_decimal(out: &mut [u8], i: usize, n: u32) -> usize
     requires { ⌜ i + mostDigits ≤ length (now out) ⌝ }
     ensures { λ r. ⌜ Puts (now (out .entry)) i (decimal n) mostDigits (now (out .exit)) r ⌝ }
 {
-    let mut text = [0u8; 20];
+    let mut text = [0u8; DIGITS_ASKED];
     let k = io::decimal(n as u64, &mut text);
     put_bytes(out, i, &text[..k]);
     i + k
@@ -49,7 +70,7 @@ fn put_column(out: &mut [u8], i: usize, n: u32) -> usize
     ensures { λ r. ⌜ Puts (now (out .entry)) i (column n) columnRoom (now (out .exit)) r ⌝ }
 {
     let at = put_decimal(out, i, n);
-    out[at] = 32;
+    out[at] = b' ';
     at + 1
 }
 
@@ -57,7 +78,7 @@ fn put_column(out: &mut [u8], i: usize, n: u32) -> usize
 fn mode_letter(mode: u32) -> u8
     ensures { λ r. ⌜ r ≡ modeLetter mode ⌝ }
 {
-    if mode == 0 { 112 } else { 97 }
+    if mode == 0 { b'p' } else { b'a' }
 }
 
 // Puts a line of the listing.
@@ -78,7 +99,7 @@ fn put_line(
     let c = put_column(out, b, records);
     let d = put_column(out, c, k);
     out[d] = mode_letter(mode);
-    out[d + 1] = 10;
+    out[d + 1] = b'\n';
     d + 2
 }
 
@@ -96,8 +117,8 @@ fn show_boot(boot: Answer, image: &[u8], out: &mut [u8]) -> Call
     ensures { λ r. ⌜ ((sent : List ℕ) → CallShown 0 (outcomeBy boot (now (image .entry)) sent)
         (now (out .entry)) 0 r (now (image .entry)) sent (now (out .exit))) ⌝ }
 {
-    let k = word(image, 8);
-    let mode = image[2] as u32;
+    let k = word(image, K_PLACE);
+    let mode = image[MODE_PLACE] as u32;
     let number = boot.number;
     let records = boot.records;
     let next = put_line(out, 0, 0, number, records, k, mode);
@@ -125,11 +146,11 @@ fn play_event(
         (now (out .entry)) (before .next) r (now (image .exit)) (now (sent .exit)) (now (out .exit)) ⌝ }
 {
     let port = word(log, place);
-    let frame = &log[place + 4..place + 12];
+    let frame = &log[place + FRAME_PLACE..place + EVENT_SIZE];
     let answer = pebrassola_deliver(image, port, frame, sent);
     let after = &image[..];
-    let k = word(after, 8);
-    let mode = after[2] as u32;
+    let k = word(after, K_PLACE);
+    let mode = after[MODE_PLACE] as u32;
     let event = before.event + 1;
     let number = answer.number;
     let records = answer.records;
@@ -160,7 +181,7 @@ fn play_events(
     let mut place = taken.events as usize;
     while before.event < taken.count {
         before = play_event(log, place, before, image, sent, out);
-        place += 12;
+        place += EVENT_SIZE;
     }
     before.next
 }
@@ -172,10 +193,10 @@ fn play_calls(log: &[u8], taken: Log, out: &mut [u8]) -> usize
         (callLines layout lastTick (now (log .entry)) (booted layout (formOf (now (log .entry))) imageLent outLent))
         listingRoom (now (out .exit)) r ⌝ }
 {
-    let mut image = [0u8; 928];
-    let mut sent = [0u8; 192];
+    let mut image = [0u8; IMAGE_ROOM];
+    let mut sent = [0u8; ROOM];
     let e = taken.events as usize;
-    let answer = pebrassola_boot(&log[12..e], &mut image, &mut sent);
+    let answer = pebrassola_boot(&log[FORM_PLACE..e], &mut image, &mut sent);
     let boot = show_boot(answer, &image, out);
     if boot.number != 0 {
         return boot.next;
@@ -187,7 +208,7 @@ fn play_calls(log: &[u8], taken: Log, out: &mut [u8]) -> usize
 pub fn play(log: &[u8], out: &mut [u8]) -> Played
     ensures { λ r. ⌜ playedBy r (now (out .exit)) ≡ played layout lastTick (now (log .entry)) (now (out .entry)) ⌝ }
 {
-    if out.len() < ROOM {
+    if out.len() < LISTING_ROOM {
         return Played::NoRoom;
     }
     match read_log(log) {

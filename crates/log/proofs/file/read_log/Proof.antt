@@ -4,7 +4,8 @@ use borrow.Author.Needs.{needs}
 use mathlib.Core.Path.{sym}
 use native.Mathlib.Omega.{arith}
 use denote.Ref.{now}
-use Rattle.log.proofs.Logs.{Laid, told-laid, told-broken}
+use Rattle.log.specs.Table.{Laid}
+use Rattle.log.proofs.Logs.{told-laid, told-broken}
 use Rattle.log.proofs.file.read_log.Statement.{statement}
 use Rattle.log.proofs.file.read_log.Tie as tie
 

@@ -6,7 +6,8 @@ use mathlib.Core.Path.{sym}
 use native.Mathlib.Omega.{arith}
 use denote.Ref.{now}
 use Rattle.log.specs.Log.{putLog}
-use Rattle.log.proofs.Logs.{Fit, written-fit, written-short, written-unfit}
+use Rattle.log.specs.Table.{Fit}
+use Rattle.log.proofs.Logs.{written-fit, written-short, written-unfit}
 use Rattle.log.proofs.file.write_log.Statement.{statement}
 use Rattle.log.proofs.file.write_log.Tie as tie
 

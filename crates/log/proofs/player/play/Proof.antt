@@ -19,7 +19,8 @@ use Rattle.log.specs.Played.{TakenLog}
 use Rattle.log.specs.Puts.{Puts}
 use Rattle.log.specs.declared.file.Log.{Log}
 use Rattle.log.specs.declared.file.LogRead.the-variants.{Taken, Refused}
-use Rattle.log.proofs.Logs.{Laid, Judged, log-judged, told-laid, told-broken}
+use Rattle.log.specs.Table.{Laid}
+use Rattle.log.proofs.Logs.{Judged, log-judged, told-laid, told-broken}
 use Rattle.log.proofs.player.play.Statement.{statement}
 use Rattle.log.proofs.player.play.Tie as tie
 

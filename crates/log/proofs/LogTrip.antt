@@ -1,40 +1,25 @@
 -- What the log's writer wrote its reader gives back, form and events too, and what the reader took the writer writes again byte for
 -- byte; bytes behind what is written stay, and a refusal changes no byte. Number 13 is given exactly when the paper says, and 7 after it.
 -- Assumes nothing.
-use mathlib.Core.Path.{_≡_, refl, sym, ap, ap₂, _∙_, subst}
+use mathlib.Core.Path.{_≡_, refl, sym, ap, ap₂, _∙_}
 use mathlib.Core.Logic.{_↔_, inl, inr}
-use mathlib.Core.Bool.{Bool, true, false, cond}
-use mathlib.Core.List.{List, [], _∷_, _++_, append-assoc}
-use Prim.Native.Nat.{ℕ, zero, suc, _+_, _-_, _*_, _/_, _%_, _≤_, _<_}
-use native.Mathlib.Nat.{add-zero, add-suc}
+use mathlib.Core.Bool.{true, false}
+use mathlib.Core.List.{List, _++_, append-assoc}
+use Prim.Native.Nat.{ℕ, _+_, _-_, _*_, _/_, _≤_, _<_}
 use native.Mathlib.Omega.{arith}
 use lib.ListN.{length, getD, take, drop, length-append, length-drop, take-append-drop, List·getD-append}
-use lib.Seq.{length-take-le, getD-take, take-suc, take-suc-set, take-at, drop-at, take-add, drop-set-lt}
-use lib.Dec.{eqb}
-use lib.Arith.{digits-div, digits-mod}
-use borrow.Author.Tests.{eqb-true}
+use lib.Seq.{length-take-le, getD-take, take-at, drop-at, take-add}
 use Rattle.fields.specs.Field.{field, putField, Bytes}
 use Rattle.forms.specs.Form.{WriteTold}
-use Rattle.fields.proofs.Fields.{drop-put, field-same, field-put, field-put-other, length-put}
-use Rattle.forms.specs.Table.{Check, Given, Says}
-use Rattle.log.specs.Log.{formPlace, eventSize, countOf, formAt, eventsAt, formOf, eventsOf, logNumber}
-use Rattle.log.specs.Log.{LogTold, logTold, lay, logSize, putHead, putLog, logWritten}
+use Rattle.forms.specs.Table.{Says}
+use Rattle.fields.proofs.Fields.{drop-put, field-same, field-put, field-put-other, length-put, take-put-field}
+use Rattle.forms.proofs.Meaning.{less, in-front, none, past, told, write-number}
+use Rattle.log.specs.Log.{formPlace, eventSize, countOf, formAt, eventsAt, formOf, eventsOf, broken, logNumber, LogTold, logTold}
+use Rattle.log.specs.Log.{writeNumber, lay, logSize, putHead, putLog, logWritten, doneWrite}
 use Rattle.log.specs.Table.{Laid, Fit, logChecks, logWriterChecks}
 use Rattle.log.proofs.Lays.{take-lay, drop-lay-behind, length-lay}
-use Rattle.log.proofs.Logs.{Judged, log-judged, judged-holds, told-laid, told-broken, written-fit, Answer, wrote, short, unfit, answer}
-
--- ---- laws of stores
-
--- a field stored right behind bytes that the output shares with the bytes that it was read from: they share it too
-take-put : (w : ℕ) (out b : List ℕ) (i : ℕ) → Bytes b → i + w ≤ length out → i + w ≤ length b → take i out ≡ take i b →
-    take (i + w) (putField w out i (field w b i)) ≡ take (i + w) b
-unfolding field putField
-take-put zero out b i h p q e = rw add-zero e
-take-put (suc w) out b i h p q e =
-    rw (digits-div (field w b i) (h (i + w)), digits-mod (field w b i) (h (i + w)), add-suc)
-    (take-suc-set (putField w out i (field w b i)) (i + w) (getD b (i + w) 0) (omega (arith, length-put w out i (field w b i)))
-    ∙ ap (λ (l : List ℕ). l ++ (getD b (i + w) 0 ∷ [])) (take-put w out b i h (omega arith) (omega arith) e)
-    ∙ sym (take-suc b (i + w) 0 (omega arith)))
+use Rattle.log.proofs.Logs.{Judged, log-judged, write-judged, judged-decides, told-laid, told-broken, written-fit}
+use Rattle.log.proofs.Logs.{Answer, wrote, refused, answer}
 
 -- ---- the bytes that the writer leaves
 
@@ -48,7 +33,7 @@ module _ (form events out : List ℕ) (room : logSize form events ≤ length out
   long-form : length (lay front formPlace form) ≡ length out
   long-form = length-lay front formPlace form (omega (arith, long)) ∙ long
 
-  -- behind the fields stands the form, and behind that the events
+  -- behind the three numbers stands the form, and behind that the events
   take-log : take (logSize form events) (putLog out form events) ≡ take formPlace front ++ form ++ events
   unfolding putLog
   take-log =
@@ -58,11 +43,12 @@ module _ (form events out : List ℕ) (room : logSize form events ≤ length out
   drop-log : drop (logSize form events) (putLog out form events) ≡ drop (logSize form events) out
   unfolding putLog
   drop-log =
-      drop-lay-behind (lay front formPlace form) (formPlace + length form) events (logSize form events) (omega arith) (omega (arith, long-form))
-      ∙ drop-lay-behind front formPlace form (logSize form events) (omega arith) (omega (arith, long))
-      ∙ drop-put 4 _ 8 (formPlace + length form) (logSize form events) (omega arith)
-      ∙ drop-put 4 _ 4 formPlace (logSize form events) (omega arith)
-      ∙ drop-put 4 out 0 (length events / eventSize) (logSize form events) (omega arith)
+      let n : ℕ = logSize form events in
+      drop-lay-behind (lay front formPlace form) (formPlace + length form) events n (omega arith) (omega (arith, long-form))
+      ∙ drop-lay-behind front formPlace form n (omega arith) (omega (arith, long))
+      ∙ drop-put 4 _ 8 (formPlace + length form) n (omega arith)
+      ∙ drop-put 4 _ 4 formPlace n (omega arith)
+      ∙ drop-put 4 out 0 (length events / eventSize) n (omega arith)
 
   length-log : length (putLog out form events) ≡ length out
   unfolding putLog
@@ -71,10 +57,10 @@ module _ (form events out : List ℕ) (room : logSize form events ≤ length out
 -- ---- what is written reads back
 
 -- number 0 is given only where all is written
-done : {form events out : List ℕ} {told : WriteTold} → Answer form events out told → told .number ≡ 0 → Fit form events × (logSize form events ≤ length out)
+done : {form events out : List ℕ} {told : WriteTold} → Answer form events out told → told .number ≡ 0 →
+    Fit form events × (logSize form events ≤ length out)
 done (wrote f p) e = (f, p)
-done (short f p) e = absurd (omega arith)
-done (unfit n) e = absurd (omega arith)
+done (refused n) e = absurd (omega arith)
 
 -- the bytes that a writer says it wrote
 abbrev pub bytesOf : WriteTold → List ℕ
@@ -88,29 +74,33 @@ module _ (form events out : List ℕ) (ok : logWritten form events out .number �
   room : logSize form events ≤ length out
   room = done (answer form events out) ok .1
 
-  log : List ℕ
-  log = take formPlace (putHead out form events) ++ form ++ events
+  -- the three numbers
+  abbrev head : List ℕ
+  head = take formPlace (putHead out form events)
 
-  -- every byte of the log: fields, form, events
+  log : List ℕ
+  log = head ++ form ++ events
+
+  -- every byte of the log: numbers, form, events
   bytes-log : bytesOf (logWritten form events out) ≡ log
   unfolding log
   bytes-log = ap bytesOf (written-fit form events out fit room) ∙ take-log form events out room
 
-  ahead : length (take formPlace (putHead out form events)) ≡ formPlace
+  ahead : length head ≡ formPlace
   ahead = length-take-le formPlace (putHead out form events) (omega (arith, room, long form events out room))
 
-  ahead-form : length (take formPlace (putHead out form events) ++ form) ≡ formPlace + length form
-  ahead-form = omega (arith, length-append (take formPlace (putHead out form events)) form, ahead)
+  ahead-form : length (head ++ form) ≡ formPlace + length form
+  ahead-form = omega (arith, length-append head form, ahead)
 
-  -- a field in front of the form
+  -- a number in front of the form
   header : (i : ℕ) → i + 4 ≤ formPlace → field 4 log i ≡ field 4 (putHead out form events) i
   unfolding log
   header i p = field-same 4 log (putHead out form events) i i (λ k q. each (i + k) (omega arith))
     where
       each : (j : ℕ) → j < formPlace → getD log j 0 ≡ getD (putHead out form events) j 0
       each j q =
-          List·getD-append (take formPlace (putHead out form events) ++ form) events 0 j (omega (arith, ahead-form))
-          ∙ List·getD-append (take formPlace (putHead out form events)) form 0 j (omega (arith, ahead))
+          List·getD-append (head ++ form) events 0 j (omega (arith, ahead-form))
+          ∙ List·getD-append head form 0 j (omega (arith, ahead))
           ∙ getD-take formPlace (putHead out form events) j 0 q
 
   count-back : countOf log ≡ length events / eventSize
@@ -127,7 +117,8 @@ module _ (form events out : List ℕ) (ok : logWritten form events out .number �
       ∙ field-put 4 _ 4 formPlace (simp length-put (omega (arith, room))) (omega arith)
 
   events-at-back : eventsAt log ≡ formPlace + length form
-  events-at-back = header 8 (omega arith) ∙ field-put 4 _ 8 (formPlace + length form) (simp length-put (omega (arith, room))) (omega (arith, fit))
+  events-at-back =
+      header 8 (omega arith) ∙ field-put 4 _ 8 (formPlace + length form) (simp length-put (omega (arith, room))) (omega (arith, fit))
 
   laid : Laid log
   unfolding log
@@ -137,15 +128,17 @@ module _ (form events out : List ℕ) (ok : logWritten form events out .number �
         least = omega (arith, events-at-back, fit);
         most = omega (arith, events-at-back, fit);
         few = omega (arith, count-back, fit);
-        whole = omega (arith, length-append (take formPlace (putHead out form events) ++ form) events, ahead-form, events-at-back, count-back, fit);
+        whole = omega (arith, length-append (head ++ form) events, ahead-form, events-at-back, count-back, fit);
       }
 
-  -- the length of both parts and 12 is written
+  -- the length of the three numbers and both parts is written
   pub log-written : logWritten form events out .written ≡ logSize form events
   log-written = ap (λ (t : WriteTold). t .written) (written-fit form events out fit room)
 
   -- its bytes are read back with the count of events and where they begin
-  pub log-read-back : logTold (bytesOf (logWritten form events out)) ≡ record { number = 0; count = length events / eventSize; events = formPlace + length form }
+  pub log-read-back :
+      logTold (bytesOf (logWritten form events out))
+      ≡ record { number = 0; count = length events / eventSize; events = formPlace + length form }
   log-read-back =
       ap logTold bytes-log
       ∙ told-laid log laid
@@ -155,26 +148,24 @@ module _ (form events out : List ℕ) (ok : logWritten form events out .number �
   pub form-read-back : formOf (bytesOf (logWritten form events out)) ≡ form
   unfolding formOf log
   form-read-back =
-      rw (bytes-log, events-at-back, append-assoc, drop-at (take formPlace (putHead out form events)) (form ++ events) formPlace ahead)
+      rw (bytes-log, events-at-back, append-assoc, drop-at head (form ++ events) formPlace ahead)
       (take-at form events (formPlace + length form - formPlace) (omega arith))
 
   -- and with the events
   pub events-read-back : eventsOf (bytesOf (logWritten form events out)) ≡ events
   unfolding eventsOf log
-  events-read-back =
-      rw (bytes-log, events-at-back) (drop-at (take formPlace (putHead out form events) ++ form) events (formPlace + length form) ahead-form)
+  events-read-back = rw (bytes-log, events-at-back) (drop-at (head ++ form) events (formPlace + length form) ahead-form)
 
 -- bytes behind what is written stay, and so does the length, whatever the number
 pub log-kept : (form events out : List ℕ) →
-    (drop (logWritten form events out .written) (logWritten form events out .out) ≡ drop (logWritten form events out .written) out)
-    × (length (logWritten form events out .out) ≡ length out)
+    let told = logWritten form events out in
+    (drop (told .written) (told .out) ≡ drop (told .written) out) × (length (told .out) ≡ length out)
 log-kept form events out = go (answer form events out)
   where
     go : {told : WriteTold} → Answer form events out told →
         (drop (told .written) (told .out) ≡ drop (told .written) out) × (length (told .out) ≡ length out)
     go (wrote f p) = (drop-log form events out p, length-log form events out p)
-    go (short f p) = (refl, refl)
-    go (unfit n) = (refl, refl)
+    go (refused n) = (refl, refl)
 
 -- a log that is refused is not written at all
 pub log-refused : (form events out : List ℕ) → (logWritten form events out .number ≡ 0 → ⊥) →
@@ -183,8 +174,7 @@ log-refused form events out = go (answer form events out)
   where
     go : {told : WriteTold} → Answer form events out told → (told .number ≡ 0 → ⊥) → (told .written ≡ 0) × (told .out ≡ out)
     go (wrote f p) no-zero = absurd (no-zero refl)
-    go (short f p) no-zero = (refl, refl)
-    go (unfit n) no-zero = (refl, refl)
+    go (refused n) no-zero = (refl, refl)
 
 -- ---- what was read is written again
 
@@ -192,7 +182,8 @@ log-refused form events out = go (answer form events out)
 module _ (b : List ℕ) (l : Laid b) where
   length-form : formPlace + length (formOf b) ≡ eventsAt b
   unfolding formOf
-  length-form = omega (arith, length-take-le (eventsAt b - formPlace) (drop formPlace b) (omega (arith, length-drop formPlace b)))
+  length-form =
+      omega (arith, length-take-le (eventsAt b - formPlace) (drop formPlace b) (omega (arith, length-drop formPlace b)))
 
   length-events : length (eventsOf b) ≡ eventSize * countOf b
   unfolding eventsOf
@@ -211,81 +202,79 @@ module _ (b : List ℕ) (l : Laid b) where
   size-again : logSize (formOf b) (eventsOf b) ≡ length b
   size-again = omega (arith, length-form, length-events)
 
-  -- it is its fields, its form and its events
+  -- it is its three numbers, its form and its events
   parts : take formPlace b ++ formOf b ++ eventsOf b ≡ b
   unfolding formOf eventsOf
   parts =
       let e : formPlace + (eventsAt b - formPlace) ≡ eventsAt b = omega arith in
-      ap (λ (x : List ℕ). x ++ drop (eventsAt b) b) (sym (take-add formPlace (eventsAt b - formPlace) b) ∙ ap (λ (n : ℕ). take n b) e) ∙ take-append-drop (eventsAt b) b
+      let front = sym (take-add formPlace (eventsAt b - formPlace) b) ∙ ap (λ (n : ℕ). take n b) e in
+      ap (λ (x : List ℕ). x ++ drop (eventsAt b) b) front ∙ take-append-drop (eventsAt b) b
 
-  -- its fields are written again
+  -- its numbers are written again
   front-again : Bytes b → (out : List ℕ) → length b ≤ length out → take formPlace (putHead out (formOf b) (eventsOf b)) ≡ take formPlace b
   front-again h out p =
-      ap₂ (λ (n e : ℕ). take formPlace (putField 4 (putField 4 (putField 4 out 0 n) 4 formPlace) 8 e)) (omega (arith, length-events)) length-form
-      ∙ ap (λ (v : ℕ). take formPlace (putField 4 (putField 4 (putField 4 out 0 (countOf b)) 4 v) 8 (eventsAt b))) (sym (l .form))
-      ∙ take-put 4 _ b 8 h (simp length-put (omega arith)) (omega arith)
-      (take-put 4 _ b 4 h (simp length-put (omega arith)) (omega arith) (take-put 4 out b 0 h (omega arith) (omega arith) refl))
+      let head : ℕ → ℕ → ℕ → List ℕ = λ n f e. take formPlace (putField 4 (putField 4 (putField 4 out 0 n) 4 f) 8 e) in
+      ap₂ (λ (n e : ℕ). head n formPlace e) (omega (arith, length-events)) length-form
+      ∙ ap (λ (f : ℕ). head (countOf b) f (eventsAt b)) (sym (l .form))
+      ∙ take-put-field 4 _ b 8 h (simp length-put (omega arith)) (omega arith)
+      (take-put-field 4 _ b 4 h (simp length-put (omega arith)) (omega arith)
+      (take-put-field 4 out b 0 h (omega arith) (omega arith) refl))
+
+-- the reader takes a log exactly where its layout holds
+pub log-taken : (b : List ℕ) → (logTold b .number ≡ 0) ↔ Laid b
+log-taken b = go (log-judged b)
+  where
+    go : Judged (broken b) (Laid b) → (logTold b .number ≡ 0) ↔ Laid b
+    go (inl j) = (λ _. j .1, λ l. ap (λ (t : LogTold). t .number) (told-laid b l))
+    go (inr j) = (λ e. absurd (omega (arith, ap (λ (t : LogTold). t .number) (told-broken b (j .1)))), λ l. absurd (j .1 l))
+
+-- the log reader tells `logNumber`
+log-told : (b : List ℕ) → logTold b .number ≡ logNumber b
+unfolding logTold
+log-told b = told (λ (t : LogTold). t .number) _ _ (logNumber b) refl refl
 
 -- what the reader took, the writer writes byte for byte, over the front of the output
 pub log-written-again : (b out : List ℕ) → Bytes b → logNumber b ≡ 0 → length b ≤ length out →
-    logWritten (formOf b) (eventsOf b) out ≡ record { number = 0; written = length b; out = b ++ drop (length b) out }
+    logWritten (formOf b) (eventsOf b) out ≡ doneWrite (length b) (b ++ drop (length b) out)
 log-written-again b out h e p =
-    written-fit (formOf b) (eventsOf b) out (fit-again b l) room
-    ∙ ap₂ {C = WriteTold} (λ (n : ℕ) (x : List ℕ). record { number = 0; written = n; out = x }) size
-    (sym (take-append-drop (logSize (formOf b) (eventsOf b)) (putLog out (formOf b) (eventsOf b))) ∙ ap₂ (λ (x y : List ℕ). x ++ y) again behind)
+    written-fit form events out (fit-again b l) room
+    ∙ ap₂ doneWrite size (sym (take-append-drop (logSize form events) (putLog out form events)) ∙ ap₂ (λ (x y : List ℕ). x ++ y) again behind)
   where
     l : Laid b
-    l = judged-holds (log-judged b) e
+    l = log-taken b .0 (log-told b ∙ e)
 
-    size : logSize (formOf b) (eventsOf b) ≡ length b
+    form : List ℕ
+    form = formOf b
+
+    events : List ℕ
+    events = eventsOf b
+
+    size : logSize form events ≡ length b
     size = size-again b l
 
-    room : logSize (formOf b) (eventsOf b) ≤ length out
+    room : logSize form events ≤ length out
     room = omega (arith, size)
 
-    again : take (logSize (formOf b) (eventsOf b)) (putLog out (formOf b) (eventsOf b)) ≡ b
-    again = take-log (formOf b) (eventsOf b) out room ∙ ap (λ (x : List ℕ). x ++ formOf b ++ eventsOf b) (front-again b l h out p) ∙ parts b l
+    again : take (logSize form events) (putLog out form events) ≡ b
+    again = take-log form events out room ∙ ap (λ (x : List ℕ). x ++ form ++ events) (front-again b l h out p) ∙ parts b l
 
-    behind : drop (logSize (formOf b) (eventsOf b)) (putLog out (formOf b) (eventsOf b)) ≡ drop (length b) out
-    behind = drop-log (formOf b) (eventsOf b) out room ∙ ap (λ (n : ℕ). drop n out) size
+    behind : drop (logSize form events) (putLog out form events) ≡ drop (length b) out
+    behind = drop-log form events out room ∙ ap (λ (n : ℕ). drop n out) size
 
 -- ---- the numbers
 
--- checks give one number at most
-pub given-one : (checks : List Check) (k m : ℕ) → Given checks k → Given checks m → k ≡ m
-given-one [] k m g h = g ∙ sym h
-given-one (check ∷ checks) k m g h = go (eqb k (check .number)) refl (eqb m (check .number)) refl g h (given-one checks k m)
-  where
-    go : (s : Bool) → eqb k (check .number) ≡ s → (t : Bool) → eqb m (check .number) ≡ t →
-        cond s (check .applies) ((check .applies → ⊥) × Given checks k) → cond t (check .applies) ((check .applies → ⊥) × Given checks m) →
-        (Given checks k → Given checks m → k ≡ m) → k ≡ m
-    go true d true e g h below = eqb-true k (check .number) d ∙ sym (eqb-true m (check .number) e)
-    go true d false e g h below = absurd (h .0 g)
-    go false d true e g h below = absurd (g .0 h)
-    go false d false e g h below = below (g .1) (h .1)
-
--- so the number that they give is the one that they say
-says : (number : ℕ) (checks : List Check) → Given checks number → Says number checks
-says number checks g =
-    record { exactly = λ k. (λ e. subst (λ (m : ℕ). Given checks m) e g, given-one checks number k g) }
-
 -- the log reader's number is 13 where the layout is broken
 pub log-says : (b : List ℕ) → Says (logTold b .number) (logChecks b)
-log-says b = go (log-judged b)
-  where
-    go : {n : ℕ} → Judged n (Laid b) → Says (logTold b .number) (logChecks b)
-    go (inl j) = rw (told-laid b (j .1)) (says 0 _ (λ n. n (j .1), refl))
-    go (inr j) = rw (told-broken b (j .1)) (says 13 _ (j .1))
+unfolding logNumber
+log-says b = rw (log-told b) (in-front 13 (judged-decides (log-judged b)) (omega arith) none)
 
 -- the log writer's number is 13 for the parts, and 7 last
-pub log-writer-says : (form events out : List ℕ) →
-    Says (logWritten form events out .number) (logWriterChecks form events out)
-log-writer-says form events out = go (answer form events out)
-  where
-    go : {told : WriteTold} → Answer form events out told → Says (told .number) (logWriterChecks form events out)
-    go (wrote f p) = says 0 _ (λ n. n f, (omega arith, refl))
-    go (short f p) = says 7 _ (λ n. n f, p)
-    go (unfit n) = says 13 _ n
+pub log-writer-says : (form events out : List ℕ) → Says (logWritten form events out .number) (logWriterChecks form events out)
+unfolding logWritten writeNumber
+log-writer-says form events out =
+    rw (write-number, past)
+    (in-front 13 (judged-decides (write-judged form events)) (omega arith)
+    (in-front 7 (less (length out) (logSize form events)) (omega arith) none))
 
 -- ---- single rows
 
@@ -295,11 +284,3 @@ row-13 b = log-says b .exactly 13
 
 writer-row-13 : (form events out : List ℕ) → (logWritten form events out .number ≡ 13) ↔ (Fit form events → ⊥)
 writer-row-13 form events out = log-writer-says form events out .exactly 13
-
--- the reader takes a log exactly where its layout holds
-pub log-taken : (b : List ℕ) → (logTold b .number ≡ 0) ↔ Laid b
-log-taken b = go (log-judged b)
-  where
-    go : {n : ℕ} → Judged n (Laid b) → (logTold b .number ≡ 0) ↔ Laid b
-    go (inl j) = (λ _. j .1, λ l. ap (λ (t : LogTold). t .number) (told-laid b l))
-    go (inr j) = (λ e. absurd (omega (arith, log-says b .exactly 13 .1 (j .1))), λ l. absurd (j .1 l))

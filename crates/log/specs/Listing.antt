@@ -13,7 +13,7 @@ use Rattle.rules.specs.Describe.{room}
 use Rattle.node.specs.Calls.{Outcome, booted, deliverOutcome}
 use Rattle.node.specs.Image.{Layout, layout, imageSize, nodeOf}
 use Rattle.log.specs.Decimal.{decimal}
-use Rattle.log.specs.Log.{framePlace, eventSize, mostEvents, countOf, eventsAt, formOf, logNumber, lay}
+use Rattle.log.specs.Log.{framePlace, eventSize, mostEvents, countOf, eventsAt, formOf, logNumber, lay, doneWrite, refusedWrite}
 
 -- ---- characters
 
@@ -95,5 +95,4 @@ listing L last log = cond (eqb (logNumber log) 0) (callLines L last log (booted 
 
 unfoldable pub played : Layout → ℕ → List ℕ → List ℕ → WriteTold
 played L last log out =
-    cond (ltb (length out) listingRoom) (record { number = 7; written = 0; out = out })
-    (record { number = 0; written = length (listing L last log); out = lay out 0 (listing L last log) })
+    cond (ltb (length out) listingRoom) (refusedWrite 7 out) (doneWrite (length (listing L last log)) (lay out 0 (listing L last log)))

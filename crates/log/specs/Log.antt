@@ -3,11 +3,11 @@
 -- are not judged here.
 use Prim.Native.Nat.{ℕ, _+_, _-_, _*_, _/_, _%_}
 use mathlib.Core.List.{List, _++_}
-use mathlib.Core.Bool.{cond, not, _||_}
+use mathlib.Core.Bool.{Bool, cond, not, _||_}
 use lib.ListN.{length, take, drop}
 use lib.Dec.{ltb, eqb}
 use Rattle.fields.specs.Field.{field, putField}
-use Rattle.forms.specs.Form.{WriteTold}
+use Rattle.forms.specs.Form.{WriteTold, writeTold}
 use Rattle.forms.specs.Frame.{frameSize}
 use Rattle.log.specs.declared.file.LogRead.{LogRead}
 use Rattle.log.specs.declared.file.LogRead.the-variants.{Taken, Refused}
@@ -64,13 +64,14 @@ formOf b = take (eventsAt b - formPlace) (drop formPlace b)
 unfoldable pub eventsOf : List ℕ → List ℕ
 eventsOf b = drop (eventsAt b) b
 
--- 13: not 20 ≤ e ≤ 1,012, or the form's offset not 12, or more than 4,096 events, or length not e + 12 × count
+-- not 20 ≤ e ≤ 1,012, or the form's offset not 12, or more than 4,096 events, or length not e + 12 × count
+abbrev pub broken : List ℕ → Bool
+broken b =
+    ltb (length b) formPlace || not (eqb (formAt b) formPlace) || ltb (eventsAt b) leastOffset || ltb mostOffset (eventsAt b)
+    || ltb mostEvents (countOf b) || not (eqb (length b) (eventsAt b + eventSize * countOf b))
+
 unfoldable pub logNumber : List ℕ → ℕ
-logNumber b =
-    cond
-    (ltb (length b) formPlace || not (eqb (formAt b) formPlace) || ltb (eventsAt b) leastOffset || ltb mostOffset (eventsAt b)
-    || ltb mostEvents (countOf b) || not (eqb (length b) (eventsAt b + eventSize * countOf b)))
-    13 0
+logNumber b = cond (broken b) 13 0
 
 -- ---- the reader
 
@@ -80,25 +81,28 @@ pub record LogTold : Type 0 where
   pub count : ℕ
   pub events : ℕ
 
+abbrev pub refusedLog : ℕ → LogTold
+refusedLog number = record { number = number; count = 0; events = 0 }
+
 unfoldable pub logTold : List ℕ → LogTold
 logTold b =
-    cond (eqb (logNumber b) 0) (record { number = 0; count = countOf b; events = eventsAt b })
-    (record { number = logNumber b; count = 0; events = 0 })
+    cond (eqb (logNumber b) 0) (record { number = 0; count = countOf b; events = eventsAt b }) (refusedLog (logNumber b))
 
 -- what an answer of the reader says
 abbrev pub toldBy : LogRead → LogTold
 toldBy (Taken log) = record { number = 0; count = log .count; events = log .events }
-toldBy Refused = record { number = 13; count = 0; events = 0 }
+toldBy Refused = refusedLog 13
 
 -- ---- the writer
 
--- 13: form not 8 to 1,000 bytes, events not a multiple of 12 bytes, or more than 4,096
+-- form not 8 to 1,000 bytes, events not a multiple of 12 bytes, or more than 4,096
+abbrev pub unfit : List ℕ → List ℕ → Bool
+unfit form events =
+    ltb (length form) leastForm || ltb mostForm (length form) || not (eqb (length events % eventSize) 0)
+    || ltb (eventSize * mostEvents) (length events)
+
 unfoldable pub writeNumber : List ℕ → List ℕ → ℕ
-writeNumber form events =
-    cond
-    (ltb (length form) leastForm || ltb mostForm (length form) || not (eqb (length events % eventSize) 0)
-    || ltb (eventSize * mostEvents) (length events))
-    13 0
+writeNumber form events = cond (unfit form events) 13 0
 
 -- the length of a log with these parts
 abbrev pub logSize : List ℕ → List ℕ → ℕ
@@ -115,15 +119,19 @@ putHead out form events = putField 4 (putField 4 (putField 4 out 0 (length event
 unfoldable pub putLog : List ℕ → List ℕ → List ℕ → List ℕ
 putLog out form events = lay (lay (putHead out form events) formPlace form) (formPlace + length form) events
 
--- 13, then 7 when the output is shorter than what would be written; a refusal changes no byte
+-- 13, then 7
 unfoldable pub logWritten : List ℕ → List ℕ → List ℕ → WriteTold
-logWritten form events out =
-    cond (eqb (writeNumber form events) 0)
-    (cond (ltb (length out) (logSize form events)) (record { number = 7; written = 0; out = out })
-    (record { number = 0; written = logSize form events; out = putLog out form events }))
-    (record { number = writeNumber form events; written = 0; out = out })
+logWritten form events out = writeTold (writeNumber form events) (logSize form events) out (putLog out form events)
 
+-- what a writer tells that wrote so many bytes, and one that refused: length written 0
+abbrev pub doneWrite : ℕ → List ℕ → WriteTold
+doneWrite size out = record { number = 0; written = size; out = out }
+
+abbrev pub refusedWrite : ℕ → List ℕ → WriteTold
+refusedWrite number out = record { number = number; written = 0; out = out }
+
+-- what an answer of the log's writer says
 abbrev pub writtenBy : LogWritten → List ℕ → WriteTold
-writtenBy (Wrote size) out = record { number = 0; written = size; out = out }
-writtenBy Broken out = record { number = 13; written = 0; out = out }
-writtenBy NoRoom out = record { number = 7; written = 0; out = out }
+writtenBy (Wrote size) out = doneWrite size out
+writtenBy Broken out = refusedWrite 13 out
+writtenBy NoRoom out = refusedWrite 7 out

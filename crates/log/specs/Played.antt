@@ -7,7 +7,7 @@ use Rattle.forms.specs.Form.{WriteTold}
 use Rattle.node.specs.Calls.{Outcome}
 use Rattle.node.specs.Image.{headerSize}
 use Rattle.log.specs.Listing.{lineOf, lineRoom}
-use Rattle.log.specs.Log.{formPlace, eventSize, mostEvents, countOf, eventsAt}
+use Rattle.log.specs.Log.{formPlace, eventSize, mostEvents, countOf, eventsAt, doneWrite, refusedWrite}
 use Rattle.log.specs.Puts.{Puts}
 use Rattle.log.specs.declared.file.Log.{Log}
 use Rattle.log.specs.declared.player.Call.{Call}
@@ -15,8 +15,8 @@ use Rattle.log.specs.declared.player.Played.{Played}
 use Rattle.log.specs.declared.player.Played.the-variants.{Listed, NoRoom}
 
 abbrev pub playedBy : Played → List ℕ → WriteTold
-playedBy (Listed size) out = record { number = 0; written = size; out = out }
-playedBy NoRoom out = record { number = 7; written = 0; out = out }
+playedBy (Listed size) out = doneWrite size out
+playedBy NoRoom out = refusedWrite 7 out
 
 -- a call with the image and the output that it left
 abbrev pub outcomeOf : Call → List ℕ → List ℕ → Outcome

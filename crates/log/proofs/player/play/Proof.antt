@@ -9,12 +9,11 @@ use native.Mathlib.Omega.{arith}
 use borrow.Author.Tests.{lt-ltb, le-ltb}
 use denote.Ref.{now}
 use lib.ListN.{length}
-use Rattle.forms.specs.Form.{WriteTold}
 use Rattle.node.specs.Calls.{booted}
 use Rattle.rules.specs.Describe.{lastTick}
 use Rattle.node.specs.Image.{layout}
 use Rattle.log.specs.Listing.{line, imageLent, outLent, callLines, listing, listingRoom, played}
-use Rattle.log.specs.Log.{LogTold, countOf, eventsAt, formOf, logNumber, logTold, toldBy}
+use Rattle.log.specs.Log.{LogTold, countOf, eventsAt, formOf, broken, logNumber, logTold, toldBy, doneWrite, refusedWrite}
 use Rattle.log.specs.Played.{TakenLog}
 use Rattle.log.specs.Puts.{Puts}
 use Rattle.log.specs.declared.file.Log.{Log}
@@ -28,18 +27,18 @@ use Rattle.log.proofs.player.play.Tie as tie
 
 -- too little room
 played-short : (log out : List ℕ) → length out < listingRoom →
-    record { number = 7; written = 0; out = out } ≡ played layout lastTick log out
+    refusedWrite 7 out ≡ played layout lastTick log out
 unfolding played
 played-short log out p = rw (lt-ltb (length out) listingRoom p)
 
 -- a listing laid from the start on
 played-listed : (log : List ℕ) {out lines : List ℕ} {room : ℕ} {after : List ℕ} {size : ℕ} →
     listingRoom ≤ length out → listing layout lastTick log ≡ lines → Puts out 0 lines room after size →
-    record { number = 0; written = size; out = after } ≡ played layout lastTick log out
+    doneWrite size after ≡ played layout lastTick log out
 unfolding played
 played-listed log {out} {lines} {room} {after} {size} p is put =
     rw (le-ltb (length out) listingRoom p, is)
-    (ap₂ {C = WriteTold} (λ (n : ℕ) (l : List ℕ). record { number = 0; written = n; out = l }) (omega (arith, put .behind)) (put .left))
+    (ap₂ doneWrite (omega (arith, put .behind)) (put .left))
 
 -- ---- the two listings, as the reader tells them apart
 
@@ -49,10 +48,10 @@ record TakenAs (log : List ℕ) (taken : Log) : Type 0 where
   lines : listing layout lastTick log ≡ callLines layout lastTick log (booted layout (formOf log) imageLent outLent)
 
 taken-as : (log : List ℕ) (taken : Log) → toldBy (Taken taken) ≡ logTold log → TakenAs log taken
-unfolding listing
+unfolding listing logNumber
 taken-as log taken e = go (log-judged log)
   where
-    go : Judged (logNumber log) (Laid log) → TakenAs log taken
+    go : Judged (broken log) (Laid log) → TakenAs log taken
     go (inl j) =
         let told = e ∙ told-laid log (j .1) in
         let count : taken .count ≡ countOf log = ap (λ (t : LogTold). t .count) told in
@@ -72,10 +71,10 @@ taken-as log taken e = go (log-judged log)
 
 -- a log that is refused has the one line
 lines-refused : (log : List ℕ) → toldBy Refused ≡ logTold log → listing layout lastTick log ≡ line 0 13 0 0 0
-unfolding listing
+unfolding listing logNumber
 lines-refused log e = go (log-judged log)
   where
-    go : Judged (logNumber log) (Laid log) → listing layout lastTick log ≡ line 0 13 0 0 0
+    go : Judged (broken log) (Laid log) → listing layout lastTick log ≡ line 0 13 0 0 0
     go (inl j) = absurd (omega (arith, ap (λ (t : LogTold). t .number) (e ∙ told-laid log (j .1))))
     go (inr j) = rw (j .0)
 

@@ -6,3 +6,4 @@ pub mod Lines
 pub mod LogTrip
 pub mod Logs
 pub mod Puts
+pub mod Single

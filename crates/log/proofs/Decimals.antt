@@ -9,6 +9,7 @@ use native.Mathlib.Omega.{arith}
 use borrow.Author.Tests.{lt-ltb, le-ltb}
 use Rattle.io.specs.Digits.{digits, Fewest, glyph}
 use Rattle.log.specs.Decimal.{decimalIn, decimal}
+use Rattle.log.specs.Listing.{mostDigits}
 
 -- a digit below ten is its code
 glyph-ten : (n : ℕ) → glyph (n % 10) ≡ 48 + n % 10
@@ -34,7 +35,8 @@ digits-in (suc c) (suc (suc k)) n room f =
     let least : 10 * 10 ^ k ≤ n = rw (one-less (suc k), pow-succ' 10 k) at (f .2 (omega arith)) in
     let big : 10 ≤ n = omega (arith, one-le-pow k 10 (omega arith)) in
     let shorter : Fewest 10 1 (n / 10) (suc k) = (omega arith, omega arith, λ _. rw (one-less k) (omega arith)) in
-    rw (le-ltb n 10 big) (ap₂ (λ (front : List ℕ) (d : ℕ). front ++ (d ∷ [])) (digits-in c (suc k) (n / 10) (omega arith) shorter) (glyph-ten n))
+    let front = digits-in c (suc k) (n / 10) (omega arith) shorter in
+    rw (le-ltb n 10 big) (ap₂ (λ (xs : List ℕ) (d : ℕ). xs ++ (d ∷ [])) front (glyph-ten n))
 
 -- a counter of 19 is enough for the twenty digits that `io::decimal` has room for
 pub digits-decimal : (k n : ℕ) → k ≤ 20 → Fewest 10 1 n k → digits 10 k n ≡ decimal n
@@ -42,10 +44,10 @@ unfolding decimal
 digits-decimal k n room f = digits-in 19 k n room f
 
 -- a number of 32 bits is below 10 ^ 10
-pub few-digits : (k n : ℕ) → n < 2 ^ 32 → Fewest 10 1 n k → k ≤ 10
-few-digits k n small f = go (decLe k 10)
+pub few-digits : (k n : ℕ) → n < 2 ^ 32 → Fewest 10 1 n k → k ≤ mostDigits
+few-digits k n small f = go (decLe k mostDigits)
   where
-    go : Dec (k ≤ 10) → k ≤ 10
+    go : Dec (k ≤ mostDigits) → k ≤ mostDigits
     go (yes few) = few
     go (no many) =
         let more : 10 ≤ k - 1 = omega arith in

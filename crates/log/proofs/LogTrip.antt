@@ -3,7 +3,6 @@
 -- Assumes nothing.
 use mathlib.Core.Path.{_≡_, refl, sym, ap, ap₂, _∙_}
 use mathlib.Core.Logic.{_↔_, inl, inr}
-use mathlib.Core.Bool.{true, false}
 use mathlib.Core.List.{List, _++_, append-assoc}
 use Prim.Native.Nat.{ℕ, _+_, _-_, _*_, _/_, _≤_, _<_}
 use native.Mathlib.Omega.{arith}
@@ -17,7 +16,7 @@ use Rattle.forms.proofs.Meaning.{less, in-front, none, past, told, write-number
 use Rattle.log.specs.Log.{formPlace, eventSize, countOf, formAt, eventsAt, formOf, eventsOf, broken, logNumber, LogTold, logTold}
 use Rattle.log.specs.Log.{writeNumber, lay, logSize, putHead, putLog, logWritten, doneWrite}
 use Rattle.log.specs.Table.{Laid, Fit, logChecks, logWriterChecks}
-use Rattle.log.proofs.Lays.{take-lay, drop-lay-behind, length-lay}
+use Rattle.log.proofs.Lays.{take-lay, drop-lay, length-lay}
 use Rattle.log.proofs.Logs.{Judged, log-judged, write-judged, judged-decides, told-laid, told-broken, written-fit}
 use Rattle.log.proofs.Logs.{Answer, wrote, refused, answer}
 
@@ -44,8 +43,8 @@ module _ (form events out : List ℕ) (room : logSize form events ≤ length out
   unfolding putLog
   drop-log =
       let n : ℕ = logSize form events in
-      drop-lay-behind (lay front formPlace form) (formPlace + length form) events n (omega arith) (omega (arith, long-form))
-      ∙ drop-lay-behind front formPlace form n (omega arith) (omega (arith, long))
+      drop-lay (lay front formPlace form) (formPlace + length form) events n (omega arith) (omega (arith, long-form))
+      ∙ drop-lay front formPlace form n (omega arith) (omega (arith, long))
       ∙ drop-put 4 _ 8 (formPlace + length form) n (omega arith)
       ∙ drop-put 4 _ 4 formPlace n (omega arith)
       ∙ drop-put 4 out 0 (length events / eventSize) n (omega arith)
@@ -238,7 +237,8 @@ pub log-written-again : (b out : List ℕ) → Bytes b → logNumber b ≡ 0 →
     logWritten (formOf b) (eventsOf b) out ≡ doneWrite (length b) (b ++ drop (length b) out)
 log-written-again b out h e p =
     written-fit form events out (fit-again b l) room
-    ∙ ap₂ doneWrite size (sym (take-append-drop (logSize form events) (putLog out form events)) ∙ ap₂ (λ (x y : List ℕ). x ++ y) again behind)
+    ∙ ap₂ doneWrite size
+    (sym (take-append-drop (logSize form events) (putLog out form events)) ∙ ap₂ (λ (x y : List ℕ). x ++ y) again behind)
   where
     l : Laid b
     l = log-taken b .0 (log-told b ∙ e)

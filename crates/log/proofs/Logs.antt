@@ -3,7 +3,7 @@
 -- Assumes nothing.
 use mathlib.Core.Path.{_≡_, refl, sym, _∙_}
 use mathlib.Core.Logic.{_⊎_, inl, inr}
-use mathlib.Core.Bool.{Bool, true, false, cond, not, _||_, false≢true}
+use mathlib.Core.Bool.{Bool, true, false, not, _||_, false≢true}
 use mathlib.Core.List.{List}
 use Prim.Native.Nat.{ℕ, suc, _+_, _*_, _%_, _≤_, _<_}
 use native.Mathlib.Decide.{decLe}
@@ -14,7 +14,8 @@ use borrow.Author.Tests.{ltb-true, ltb-false, eqb-true, eqb-false, lt-ltb, le-lt
 use Rattle.forms.specs.Form.{WriteTold}
 use Rattle.forms.proofs.Meaning.{Decides}
 use Rattle.log.specs.Log.{formPlace, eventSize, mostEvents, leastForm, mostForm, leastOffset, mostOffset, countOf, formAt, eventsAt}
-use Rattle.log.specs.Log.{broken, logNumber, refusedLog, logTold, unfit, writeNumber, logSize, putLog, logWritten, doneWrite, refusedWrite}
+use Rattle.log.specs.Log.{broken, logNumber, refusedLog, logTold, unfit, writeNumber, logSize, putLog, logWritten}
+use Rattle.log.specs.Log.{doneWrite, refusedWrite}
 use Rattle.log.specs.Table.{Laid, Fit}
 
 -- ---- the tests
@@ -25,8 +26,8 @@ Judged refuses Holds = ((refuses ≡ false) × Holds) ⊎ ((refuses ≡ true) ×
 
 pub log-judged : (b : List ℕ) → Judged (broken b) (Laid b)
 log-judged b =
-    go (ltb (length b) formPlace) refl (eqb (formAt b) formPlace) refl (ltb (eventsAt b) leastOffset) refl (ltb mostOffset (eventsAt b)) refl
-    (ltb mostEvents (countOf b)) refl (eqb (length b) (eventsAt b + eventSize * countOf b)) refl
+    go (ltb (length b) formPlace) refl (eqb (formAt b) formPlace) refl (ltb (eventsAt b) leastOffset) refl
+    (ltb mostOffset (eventsAt b)) refl (ltb mostEvents (countOf b)) refl (eqb (length b) (eventsAt b + eventSize * countOf b)) refl
   where
     go : (t₁ : Bool) → ltb (length b) formPlace ≡ t₁ → (t₂ : Bool) → eqb (formAt b) formPlace ≡ t₂ →
         (t₃ : Bool) → ltb (eventsAt b) leastOffset ≡ t₃ → (t₄ : Bool) → ltb mostOffset (eventsAt b) ≡ t₄ →

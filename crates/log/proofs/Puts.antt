@@ -10,8 +10,8 @@ use Rattle.log.specs.Log.{lay}
 use Rattle.log.specs.Puts.{Puts}
 use Rattle.log.proofs.Lays.{lay-none, lay-append, lay-one}
 
-pub puts-none : {out : List ℕ} {i : ℕ} → i ≤ length out → Puts out i [] 0 out i
-puts-none {out} {i} p = record { behind = omega arith; within = omega arith; left = sym (lay-none out i p) }
+pub puts-none : {out : List ℕ} {i : ℕ} → Puts out i [] 0 out i
+puts-none {out} {i} = record { behind = omega arith; within = omega arith; left = sym (lay-none out i) }
 
 pub puts-one : {out : List ℕ} {i x : ℕ} {after : List ℕ} {next : ℕ} →
     i < length out → next ≡ i + 1 → after ≡ set out i x → Puts out i (x ∷ []) 1 after next

@@ -5,11 +5,15 @@ use mathlib.Core.List.{List, [], _∷_, _++_}
 use mathlib.Core.Bool.{cond}
 use lib.Dec.{ltb}
 
+-- the character of a digit
+abbrev pub digit : ℕ → ℕ
+digit d = 48 + d
+
 unfoldable pub decimalIn : ℕ → ℕ → List ℕ
-decimalIn zero n = (48 + n % 10) ∷ []
+decimalIn zero n = digit (n % 10) ∷ []
 decimalIn (suc c) n =
-    let more = decimalIn c (n / 10) ++ ((48 + n % 10) ∷ []) in
-    cond (ltb n 10) ((48 + n) ∷ []) more
+    let more = decimalIn c (n / 10) ++ (digit (n % 10) ∷ []) in
+    cond (ltb n 10) (digit n ∷ []) more
 
 unfoldable pub decimal : ℕ → List ℕ
 decimal n = decimalIn 19 n

@@ -7,31 +7,35 @@ ghost use Prim.Native.Nat.{_+_, _≤_};
 ghost use lib.ListN.{length};
 ghost use Rattle.log.specs.Log.{toldBy, logTold, lay, writtenBy, logWritten};
 
-// Where the form stands, behind the count and the two offsets; and the same as a field of the log.
-pub const FORM_PLACE: usize = 12;
+// Where the form stands: behind the count and the two offsets.
+pub(crate) const FORM_PLACE: usize = 12;
 
+// The same as the log has it.
 const FORM_OFFSET: u32 = FORM_PLACE as u32;
 
-// Where the frame stands in an event, behind the port serial; and the bytes of an event: 12.
-pub const FRAME_PLACE: usize = 4;
+// Where the frame stands in an event: behind the port serial.
+pub(crate) const FRAME_PLACE: usize = 4;
 
-pub const EVENT_SIZE: usize = FRAME_PLACE + FRAME;
+// Bytes of an event: 12.
+pub(crate) const EVENT_SIZE: usize = FRAME_PLACE + FRAME;
 
-// The most events, and their bytes.
-pub const MOST_EVENTS: u32 = 4096;
+pub(crate) const MOST_EVENTS: u32 = 4096;
 
 const MOST_EVENT_BYTES: usize = MOST_EVENTS as usize * EVENT_SIZE;
 
-// A form has 8 to 1,000 bytes, so the events begin at 20 to 1,012.
+// A form has 8 bytes at least,
 const LEAST_FORM: usize = 8;
 
+// and 1,000 at most,
 const MOST_FORM: usize = 1000;
 
+// so the events begin at 20 at least,
 const LEAST_OFFSET: u32 = (FORM_PLACE + LEAST_FORM) as u32;
 
+// and at 1,012 at most.
 const MOST_OFFSET: u32 = (FORM_PLACE + MOST_FORM) as u32;
 
-// The longest log: 50,164 bytes.
+// Bytes of the longest log: 50,164.
 pub const LONGEST: usize = FORM_PLACE + MOST_FORM + MOST_EVENT_BYTES;
 
 // A log that is taken: how many events, and where they begin. The form stands from 12 to there.

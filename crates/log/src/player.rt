@@ -27,23 +27,25 @@ ghost use Rattle.log.specs.Log.{formOf};
 ghost use Rattle.log.specs.Played.{playedBy, TakenLog, CallShown, EventAsked, EventsAsked};
 ghost use Rattle.log.specs.Puts.{Puts};
 
-// The most digits of a number of 32 bits, and those that the kit asks room for.
+// The most digits of a number of 32 bits.
 const MOST_DIGITS: usize = 10;
 
+// Room that the kit asks for the digits of any number.
 const DIGITS_ASKED: usize = 20;
 
-// The most bytes of a line: four numbers with a blank each, the mode and the newline.
+// The most bytes of a line, 46: four numbers with a blank each, the mode and the newline.
 const LINE_ROOM: usize = 4 * (MOST_DIGITS + 1) + 2;
 
-// Room for every listing: 4,097 lines of at most 46 bytes.
+// Room for every listing: boot's line, and one for each of 4,096 events.
 pub const LISTING_ROOM: usize = (MOST_EVENTS as usize + 1) * LINE_ROOM;
 
-// Room for every image: 32 bytes and 28 for each of 32 lines.
+// Room for every image: 32 bytes, and 28 for each of 32 lines.
 const IMAGE_ROOM: usize = 928;
 
-// Where k and the mode stand in an image.
+// Where k stands in an image.
 const K_PLACE: usize = 8;
 
+// Where the mode stands in an image.
 const MODE_PLACE: usize = 2;
 
 pub enum Played {

@@ -13,23 +13,19 @@ use Rattle.log.proofs.file.write_log.Tie as tie
 
 returns : tie.Need-returns
 returns c =
-    let a = c .before .before .before .before .args in
-    sym (written-unfit (now (a .form)) (now (a .events)) (now (a .out)) (λ f. omega arith))
+    sym (written-unfit _ _ _ (λ f. omega arith))
 
 returns-2 : tie.Need-returns-2
 returns-2 c =
-    let a = c .before .before .before .before .before .args in
-    sym (written-unfit (now (a .form)) (now (a .events)) (now (a .out)) (λ f. omega arith))
+    sym (written-unfit _ _ _ (λ f. omega arith))
 
 returns-3 : tie.Need-returns-3
 returns-3 c =
-    let a = c .before .before .before .before .before .before .args in
-    sym (written-unfit (now (a .form)) (now (a .events)) (now (a .out)) (λ f. omega arith))
+    sym (written-unfit _ _ _ (λ f. omega arith))
 
 returns-4 : tie.Need-returns-4
 returns-4 c =
-    let a = c .before .before .before .before .before .before .before .args in
-    sym (written-unfit (now (a .form)) (now (a .events)) (now (a .out)) (λ f. omega arith))
+    sym (written-unfit _ _ _ (λ f. omega arith))
 
 add-start : tie.Need-add-start
 add-start c = search needs
@@ -38,13 +34,13 @@ add-size : tie.Need-add-size
 add-size c = search needs
 
 -- past the tests of the parts the writer takes them
-fit : (c : tie.Else4) → Fit (now (c .before .before .before .before .before .before .before .args .form)) (now (c .before .before .before .before .before .before .before .args .events))
+fit : (c : tie.Else4) →
+    let a = c .before .before .before .before .before .before .before .args in
+    Fit (now (a .form)) (now (a .events))
 fit c = record { least = omega arith; most = omega arith; whole = omega arith; few = omega arith }
 
 returns-5 : tie.Need-returns-5
-returns-5 c =
-    let a = c .before .before .before .before .before .before .before .before .args in
-    sym (written-short (now (a .form)) (now (a .events)) (now (a .out)) (fit (c .before)) (omega arith))
+returns-5 c = sym (written-short _ _ _ (fit (c .before)) (omega arith))
 
 cast-put-word : tie.Need-cast-put-word
 cast-put-word c = search needs
@@ -73,15 +69,19 @@ same-length c = search needs
 returns-6 : tie.Need-returns-6
 unfolding putLog
 returns-6 c =
-    let a = c .before .before .before .before .before .before .before .before .before .before .before .before .before .before .before .before .before .before .before .before .before .before .before .before .before .before .before .before .args in
+    let events = c .before .before in
+    let form = events .before .before .before .before in
+    let start = form .before .before .before .before in
+    let place = start .before .before .before .before in
+    let count = place .before .before .before .before in
     rw (
-      c .before .before .put-bytes2 .ensures,
-      c .before .before .before .before .before .before .put-bytes .ensures,
-      c .before .before .before .before .before .before .before .before .before .before .put-word3 .ensures,
-      c .before .before .before .before .before .before .before .before .before .before .before .before .before .before .put-word2 .ensures,
-      c .before .before .before .before .before .before .before .before .before .before .before .before .before .before .before .before .before .before .put-word .ensures,
+      events .put-bytes2 .ensures,
+      form .put-bytes .ensures,
+      start .put-word3 .ensures,
+      place .put-word2 .ensures,
+      count .put-word .ensures,
     )
-    (sym (written-fit (now (a .form)) (now (a .events)) (now (a .out)) (fit (c .before .before .before .before .before .before .before .before .before .before .before .before .before .before .before .before .before .before .before .before .before)) (omega arith)))
+    (sym (written-fit _ _ _ (fit (count .before .before .before)) (omega arith)))
 
 pub write-log-spec : {M : Type 1} → statement M
 write-log-spec =

@@ -88,8 +88,10 @@ returns : tie.Need-returns
 returns c =
     let put = c .before .before in
     let looked = put .before .before .before .before in
-    let is = called (looked .before .before .before .before .before .before) in
-    record { event = refl; outcome = is; line = puts-call _ is (looked .word2 .ensures) (put .put-line .ensures) }
+    let delivered = looked .before .before .before .before .before .before in
+    let is = called delivered in
+    let e : ℕ = delivered .before .before .before .before .before .before .before .before .before .args .before .event + 1 in
+    record { event = refl; outcome = is; line = puts-call e is (looked .word2 .ensures) (put .put-line .ensures) }
 
 pub play-event-spec : {M : Type 1} → statement M
 play-event-spec =

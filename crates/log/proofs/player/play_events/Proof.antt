@@ -82,7 +82,7 @@ loop-holds c =
     rw (asked .first)
     (record {
       done = [];
-      laid = puts-none (omega (arith, asked .room));
+      laid = puts-none;
       all = simp sub-zero;
       turn = omega arith;
       here = omega arith;

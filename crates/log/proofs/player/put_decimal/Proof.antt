@@ -7,6 +7,7 @@ use native.Mathlib.Omega.{arith}
 use lib.ListN.{length, take}
 use denote.Ref.{now}
 use Rattle.log.specs.Decimal.{decimal}
+use Rattle.log.specs.Listing.{mostDigits}
 use Rattle.log.specs.Log.{lay}
 use Rattle.log.proofs.Decimals.{digits-decimal, few-digits}
 use Rattle.log.proofs.player.put_decimal.Statement.{statement}
@@ -16,7 +17,7 @@ decimal-requires : tie.Need-decimal-requires
 decimal-requires c κs = search needs
 
 -- at most ten digits
-few : (c : tie.After-decimal) → c .decimal .result ≤ 10
+few : (c : tie.After-decimal) → c .decimal .result ≤ mostDigits
 few c = few-digits (c .decimal .result) (c .before .before .before .args .n) (omega arith) (c .decimal .ensures .1 .0)
 
 -- the text begins with the number's digits

@@ -139,7 +139,7 @@ beyond-says : (n f : ℕ) → Decides (ltb n 1 || ltb mostLines n || ltb n (3 * 
 beyond-says n f = either _ _ (either _ _ (less n 1) (less mostLines n)) (less n (3 * f + 1))
 
 -- other checks behind come after the last of these
-past : (t : Bool) (n rest next : ℕ) → orElse (cond t (suc n) rest) next ≡ cond t (suc n) (orElse rest next)
+pub past : (t : Bool) (n rest next : ℕ) → orElse (cond t (suc n) rest) next ≡ cond t (suc n) (orElse rest next)
 past true n rest next = refl
 past false n rest next = refl
 

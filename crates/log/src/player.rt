@@ -9,9 +9,12 @@ use crate::file::put_bytes;
 use crate::file::read_log;
 use fields::field::word;
 use node::face::Answer;
-use node::face::ROOM;
 use node::face::pebrassola_boot;
 use node::face::pebrassola_deliver;
+use node::image::MODE_PLACE;
+use node::image::MOST_IMAGE;
+use node::image::TICK_PLACE;
+use rules::node::Node;
 ghost use mathlib.Core.Path.{_≡_};
 ghost use mathlib.Core.List.{List};
 ghost use Prim.Native.Nat.{ℕ, _+_, _*_, _≤_};
@@ -38,15 +41,6 @@ const LINE_ROOM: usize = 4 * (MOST_DIGITS + 1) + 2;
 
 // Room for every listing: boot's line, and one for each of 4,096 events.
 pub const LISTING_ROOM: usize = (MOST_EVENTS as usize + 1) * LINE_ROOM;
-
-// Room for every image: 32 bytes, and 28 for each of 32 lines.
-const IMAGE_ROOM: usize = 928;
-
-// Where k stands in an image.
-const K_PLACE: usize = 8;
-
-// Where the mode stands in an image.
-const MODE_PLACE: usize = 2;
 
 pub enum Played {
     // the length of the listing
@@ -119,7 +113,7 @@ fn show_boot(boot: Answer, image: &[u8], out: &mut [u8]) -> Call
     ensures { λ r. ⌜ ((sent : List ℕ) → CallShown 0 (outcomeBy boot (now (image .entry)) sent)
         (now (out .entry)) 0 r (now (image .entry)) sent (now (out .exit))) ⌝ }
 {
-    let k = word(image, K_PLACE);
+    let k = word(image, TICK_PLACE);
     let mode = image[MODE_PLACE] as u32;
     let number = boot.number;
     let records = boot.records;
@@ -151,7 +145,7 @@ fn play_event(
     let frame = &log[place + FRAME_PLACE..place + EVENT_SIZE];
     let answer = pebrassola_deliver(image, port, frame, sent);
     let after = &image[..];
-    let k = word(after, K_PLACE);
+    let k = word(after, TICK_PLACE);
     let mode = after[MODE_PLACE] as u32;
     let event = before.event + 1;
     let number = answer.number;
@@ -195,8 +189,8 @@ fn play_calls(log: &[u8], taken: Log, out: &mut [u8]) -> usize
         (callLines layout lastTick (now (log .entry)) (booted layout (formOf (now (log .entry))) imageLent outLent))
         listingRoom (now (out .exit)) r ⌝ }
 {
-    let mut image = [0u8; IMAGE_ROOM];
-    let mut sent = [0u8; ROOM];
+    let mut image = [0u8; MOST_IMAGE];
+    let mut sent = [0u8; Node::ROOM];
     let e = taken.events as usize;
     let answer = pebrassola_boot(&log[FORM_PLACE..e], &mut image, &mut sent);
     let boot = show_boot(answer, &image, out);

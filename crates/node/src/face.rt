@@ -1,6 +1,8 @@
 // The face to truck firmware in C: boot, deliver and read on byte buffers. Nothing has to be checked beforehand but that the
 // buffers are real memory of the stated length and do not overlap. A refusal gives its number and changes no byte.
 use crate::image::HEADER;
+use crate::image::MODE_PLACE;
+use crate::image::TICK_PLACE;
 use crate::image::is_sound;
 use crate::image::put_clock;
 use crate::image::put_fresh_rows;
@@ -135,7 +137,7 @@ pub extern "C" fn pebrassola_read(image: &[u8]) -> Reading
             clock: 0,
         };
     }
-    if image[2] == 0 {
+    if image[MODE_PLACE] == 0 {
         return Reading {
             number: 12,
             clock: 0,
@@ -143,6 +145,6 @@ pub extern "C" fn pebrassola_read(image: &[u8]) -> Reading
     }
     Reading {
         number: 0,
-        clock: word(image, 8),
+        clock: word(image, TICK_PLACE),
     }
 }

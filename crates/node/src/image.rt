@@ -10,6 +10,7 @@ use fields::field::put_word;
 use fields::field::word;
 use forms::answer::Verdict;
 use forms::form::SERIALS;
+use forms::roster::MOST_LINES;
 use forms::roster::judge;
 use rules::node::Node;
 use sets::ticks::Ticks;
@@ -33,6 +34,18 @@ const OFFSET: u32 = HEADER as u32;
 
 const STRIDE: u32 = ROW as u32;
 
+// Bytes of the longest image.
+pub const MOST_IMAGE: usize = HEADER + MOST_LINES * ROW;
+
+// Where mode, own serial, k and the last echo sent stand in the header.
+pub const MODE_PLACE: usize = 2;
+
+const OWN_PLACE: usize = 4;
+
+pub const TICK_PLACE: usize = 8;
+
+const SENT_PLACE: usize = 12;
+
 // Byte 3, which tells this form of an image from others.
 const MARK: u8 = 0;
 
@@ -44,10 +57,10 @@ pub(crate) fn read_node(b: &[u8]) -> Node
     Node {
         lines: b[0] as u32,
         faults: b[1] as u32,
-        own: word(b, 4),
-        mode: b[2] as u32,
-        tick: word(b, 8),
-        sent: word(b, 12),
+        own: word(b, OWN_PLACE),
+        mode: b[MODE_PLACE] as u32,
+        tick: word(b, TICK_PLACE),
+        sent: word(b, SENT_PLACE),
     }
 }
 
@@ -120,9 +133,9 @@ pub(crate) fn put_clock(b: &mut [u8], node: Node)
     requires { ⌜ (headerSize ≤ length (now b)) × (node .mode < 256) ⌝ }
     ensures { λ _. ⌜ now (b .exit) ≡ putClock (now (b .entry)) node ⌝ }
 {
-    b[2] = node.mode as u8;
-    put_word(b, 8, node.tick);
-    put_word(b, 12, node.sent);
+    b[MODE_PLACE] = node.mode as u8;
+    put_word(b, TICK_PLACE, node.tick);
+    put_word(b, SENT_PLACE, node.sent);
 }
 
 // Writes the fixed values of a header for n rows.
@@ -146,7 +159,7 @@ pub(crate) fn put_node(b: &mut [u8], node: Node)
     put_fixed(b, node.lines);
     b[0] = node.lines as u8;
     b[1] = node.faults as u8;
-    put_word(b, 4, node.own);
+    put_word(b, OWN_PLACE, node.own);
     put_clock(b, node);
 }
 

@@ -89,18 +89,21 @@ pub record WriteTold : Type 0 where
   pub written : ℕ
   pub out : List ℕ
 
+-- what a writer tells that wrote so many bytes, and one that refused: length written 0
+abbrev pub doneWrite : ℕ → List ℕ → WriteTold
+doneWrite size out = record { number = 0; written = size; out = out }
+
+abbrev pub refusedWrite : ℕ → List ℕ → WriteTold
+refusedWrite number out = record { number = number; written = 0; out = out }
+
 abbrev pub writtenBy : Written → List ℕ → WriteTold
-writtenBy (Wrote count) out = record { number = 0; written = count; out = out }
-writtenBy (NotWritten why) out = record { number = numberOf why; written = 0; out = out }
+writtenBy (Wrote count) out = doneWrite count out
+writtenBy (NotWritten why) out = refusedWrite (numberOf why) out
 
 -- 7, last, when the output is shorter than what would be written; a refusal changes no byte
 abbrev pub writeTold : ℕ → ℕ → List ℕ → List ℕ → WriteTold
 writeTold number size before after =
-    cond (eqb number 0)
-    (cond (ltb (length before) size)
-    (record { number = 7; written = 0; out = before })
-    (record { number = 0; written = size; out = after }))
-    (record { number = number; written = 0; out = before })
+    cond (eqb number 0) (cond (ltb (length before) size) (refusedWrite 7 before) (doneWrite size after)) (refusedWrite number before)
 
 -- the form of a roster, written over the front of the output; bytes behind it stay
 unfoldable pub putForm : List ℕ → ℕ → ℕ → List ℕ → List ℕ

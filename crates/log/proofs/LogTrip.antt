@@ -9,12 +9,12 @@ use native.Mathlib.Omega.{arith}
 use lib.ListN.{length, getD, take, drop, length-append, length-drop, take-append-drop, List·getD-append}
 use lib.Seq.{length-take-le, getD-take, take-at, drop-at, take-add}
 use Rattle.fields.specs.Field.{field, putField, Bytes}
-use Rattle.forms.specs.Form.{WriteTold}
+use Rattle.forms.specs.Form.{WriteTold, doneWrite}
 use Rattle.forms.specs.Table.{Says}
 use Rattle.fields.proofs.Fields.{drop-put, field-same, field-put, field-put-other, length-put, take-put-field}
 use Rattle.forms.proofs.Meaning.{less, in-front, none, past, told, write-number}
 use Rattle.log.specs.Log.{formPlace, eventSize, countOf, formAt, eventsAt, formOf, eventsOf, broken, logNumber, LogTold, logTold}
-use Rattle.log.specs.Log.{writeNumber, lay, logSize, putHead, putLog, logWritten, doneWrite}
+use Rattle.log.specs.Log.{writeNumber, lay, logSize, putHead, putLog, logWritten}
 use Rattle.log.specs.Table.{Laid, Fit, logChecks, logWriterChecks}
 use Rattle.log.proofs.Lays.{take-lay, drop-lay, length-lay}
 use Rattle.log.proofs.Logs.{Judged, log-judged, write-judged, judged-decides, told-laid, told-broken, written-fit}

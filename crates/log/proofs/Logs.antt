@@ -11,11 +11,10 @@ use native.Mathlib.Omega.{arith}
 use lib.ListN.{length}
 use lib.Dec.{ltb, eqb}
 use borrow.Author.Tests.{ltb-true, ltb-false, eqb-true, eqb-false, lt-ltb, le-ltb}
-use Rattle.forms.specs.Form.{WriteTold}
+use Rattle.forms.specs.Form.{WriteTold, doneWrite, refusedWrite}
 use Rattle.forms.proofs.Meaning.{Decides}
 use Rattle.log.specs.Log.{formPlace, eventSize, mostEvents, leastForm, mostForm, leastOffset, mostOffset, countOf, formAt, eventsAt}
 use Rattle.log.specs.Log.{broken, logNumber, refusedLog, logTold, unfit, writeNumber, logSize, putLog, logWritten}
-use Rattle.log.specs.Log.{doneWrite, refusedWrite}
 use Rattle.log.specs.Table.{Laid, Fit}
 
 -- ---- the tests

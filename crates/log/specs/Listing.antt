@@ -6,14 +6,14 @@ use mathlib.Core.Bool.{cond}
 use lib.ListN.{length, take, drop, replicate}
 use lib.Dec.{ltb, eqb}
 use Rattle.fields.specs.Field.{field}
-use Rattle.forms.specs.Form.{WriteTold}
+use Rattle.forms.specs.Form.{WriteTold, doneWrite, refusedWrite}
 use Rattle.forms.specs.Frame.{frameSize}
 use Rattle.forms.specs.Roster.{mostLines}
 use Rattle.rules.specs.Describe.{room}
 use Rattle.node.specs.Calls.{Outcome, booted, deliverOutcome}
 use Rattle.node.specs.Image.{Layout, layout, imageSize, nodeOf}
 use Rattle.log.specs.Decimal.{decimal}
-use Rattle.log.specs.Log.{framePlace, eventSize, mostEvents, countOf, eventsAt, formOf, logNumber, lay, doneWrite, refusedWrite}
+use Rattle.log.specs.Log.{framePlace, eventSize, mostEvents, countOf, eventsAt, formOf, logNumber, lay}
 
 -- ---- characters
 

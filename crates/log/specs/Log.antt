@@ -7,7 +7,7 @@ use mathlib.Core.Bool.{Bool, cond, not, _||_}
 use lib.ListN.{length, take, drop}
 use lib.Dec.{ltb, eqb}
 use Rattle.fields.specs.Field.{field, putField}
-use Rattle.forms.specs.Form.{WriteTold, writeTold}
+use Rattle.forms.specs.Form.{WriteTold, doneWrite, refusedWrite, writeTold}
 use Rattle.forms.specs.Frame.{frameSize}
 use Rattle.log.specs.declared.file.LogRead.{LogRead}
 use Rattle.log.specs.declared.file.LogRead.the-variants.{Taken, Refused}
@@ -122,13 +122,6 @@ putLog out form events = lay (lay (putHead out form events) formPlace form) (for
 -- 13, then 7
 unfoldable pub logWritten : List ℕ → List ℕ → List ℕ → WriteTold
 logWritten form events out = writeTold (writeNumber form events) (logSize form events) out (putLog out form events)
-
--- what a writer tells that wrote so many bytes, and one that refused: length written 0
-abbrev pub doneWrite : ℕ → List ℕ → WriteTold
-doneWrite size out = record { number = 0; written = size; out = out }
-
-abbrev pub refusedWrite : ℕ → List ℕ → WriteTold
-refusedWrite number out = record { number = number; written = 0; out = out }
 
 -- what an answer of the log's writer says
 abbrev pub writtenBy : LogWritten → List ℕ → WriteTold

@@ -3,11 +3,11 @@ use mathlib.Core.Path.{_≡_}
 use mathlib.Core.List.{List}
 use Prim.Native.Nat.{ℕ, _+_, _*_, _≤_, _<_}
 use lib.ListN.{length}
-use Rattle.forms.specs.Form.{WriteTold}
+use Rattle.forms.specs.Form.{WriteTold, doneWrite, refusedWrite}
 use Rattle.node.specs.Calls.{Outcome}
 use Rattle.node.specs.Image.{headerSize}
 use Rattle.log.specs.Listing.{lineOf, lineRoom}
-use Rattle.log.specs.Log.{formPlace, eventSize, mostEvents, countOf, eventsAt, doneWrite, refusedWrite}
+use Rattle.log.specs.Log.{formPlace, eventSize, mostEvents, countOf, eventsAt}
 use Rattle.log.specs.Puts.{Puts}
 use Rattle.log.specs.declared.file.Log.{Log}
 use Rattle.log.specs.declared.player.Call.{Call}

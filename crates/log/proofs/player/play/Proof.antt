@@ -13,7 +13,8 @@ use Rattle.node.specs.Calls.{booted}
 use Rattle.rules.specs.Describe.{lastTick}
 use Rattle.node.specs.Image.{layout}
 use Rattle.log.specs.Listing.{line, imageLent, outLent, callLines, listing, listingRoom, played}
-use Rattle.log.specs.Log.{LogTold, countOf, eventsAt, formOf, broken, logNumber, logTold, toldBy, doneWrite, refusedWrite}
+use Rattle.log.specs.Log.{LogTold, countOf, eventsAt, formOf, broken, logNumber, logTold, toldBy}
+use Rattle.forms.specs.Form.{doneWrite, refusedWrite}
 use Rattle.log.specs.Played.{TakenLog}
 use Rattle.log.specs.Puts.{Puts}
 use Rattle.log.specs.declared.file.Log.{Log}

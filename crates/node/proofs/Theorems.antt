@@ -39,7 +39,8 @@ use Rattle.node.proofs.Kept.{boot-behind-image, boot-behind-records}
 use Rattle.node.proofs.Kept.{deliver-behind-image, deliver-behind-records, deliver-only}
 use Rattle.node.proofs.Lives.{life-order}
 use Rattle.node.proofs.Numbers.{boot-says, deliver-says, read-says}
-use Rattle.node.proofs.Outcomes.{boot-told, boot-done, boot-refused, deliver-told, deliver-done, deliver-refused, read-done, read-refused}
+use Rattle.node.proofs.Outcomes.{boot-told, boot-done, boot-refused, deliver-told, deliver-done, deliver-refused}
+use Rattle.node.proofs.Outcomes.{read-done, read-refused}
 use Rattle.node.proofs.SoundImages.{in-service, boot-sound}
 use Rattle.node.proofs.SoundImages.{delivery-sound, delivery-ordered, delivery-firings, delivery-records, delivery-below}
 

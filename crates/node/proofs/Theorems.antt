@@ -6,7 +6,7 @@
 -- Assumes nothing.
 use mathlib.Core.Path.{_≡_, sym, ap, _∙_, subst}
 use mathlib.Core.Bool.{true}
-use mathlib.Core.Logic.{_⊎_}
+use mathlib.Core.Logic.{_↔_, _⊎_}
 use mathlib.Core.List.{List, [], _∷_, List·Memᴰ}
 use Prim.Native.Nat.{ℕ, _*_, _≤_, _<_}
 use lib.ListN.{length, getD}
@@ -14,29 +14,37 @@ use lib.Dec.{lit<}
 use Rattle.fields.specs.Field.{Bytes}
 use Rattle.fields.specs.Kind.{INIT, ECHO}
 use Rattle.forms.specs.Form.{linesOf, Reordered}
-use Rattle.forms.specs.Table.{Says}
+use Rattle.forms.specs.Table.{Says, Twice}
 use Rattle.evidence.specs.Holders.{heldUnder}
+use Rattle.evidence.specs.Rows.{Row}
+use Rattle.evidence.specs.Serials.{serialsIn}
 use Rattle.rules.specs.Clock.{Ordered, Below}
 use Rattle.rules.specs.Delivery.{Delivered}
 use Rattle.sets.specs.History.{Sent, heard}
 use Rattle.sets.specs.Ticks.{Held}
 use Rattle.rules.specs.Describe.{window, lastTick}
 use Rattle.rules.specs.Record.{broadcast, recordSize, putRecords}
+use Rattle.rules.specs.Rules.{firstRule}
+use Rattle.rules.specs.Which.{Fires}
 use Rattle.rules.specs.declared.node.Node.{Node}
+use Rattle.rules.specs.declared.node.Rule.{Rule}
+use Rattle.rules.proofs.Which.{which-says}
 use Rattle.node.specs.After.{Begins, Follows, InRow}
 use Rattle.node.specs.Calls.{Outcome, refused, booted, deliverNumber, deliveryOf, deliverDone, deliverOutcome, unread, reading}
 use Rattle.node.specs.Calls.{Reading as Told}
 use Rattle.node.specs.Faces.{outcomeBy, readingBy}
 use Rattle.node.specs.Heard.{imageLeft, accepted}
-use Rattle.node.specs.Image.{layout, imageSize, rowsOf, nodeOf, stateOf, fixedHeader, putState}
+use Rattle.node.specs.Image.{layout, imageSize, rowsOf, nodeOf, stateOf, fixedHeader, putState, soundImage}
 use Rattle.node.specs.Runs.{Call, life}
+use Rattle.node.specs.Sound.{SoundImage}
 use Rattle.node.specs.Table.{bootChecks, deliverChecks, readChecks}
 use Rattle.node.specs.declared.face.Answer.{Answer}
 use Rattle.node.specs.declared.face.Reading.{Reading}
 use Rattle.node.proofs.Images.{state-again}
+use Rattle.node.proofs.Conditions.{sound-says}
 use Rattle.node.proofs.Heard.{held-is-heard, held-same}
-use Rattle.node.proofs.Kept.{boot-behind-image, boot-behind-records}
-use Rattle.node.proofs.Kept.{deliver-behind-image, deliver-behind-records, deliver-only}
+use Rattle.node.proofs.Kept.{boot-image-length, boot-out-length, boot-behind-image, boot-behind-records}
+use Rattle.node.proofs.Kept.{deliver-image-length, deliver-out-length, deliver-behind-image, deliver-behind-records, deliver-only}
 use Rattle.node.proofs.Lives.{life-order}
 use Rattle.node.proofs.Numbers.{boot-says, deliver-says, read-says}
 use Rattle.node.proofs.Outcomes.{boot-told, boot-done, boot-refused, deliver-told, deliver-done, deliver-refused}
@@ -76,7 +84,10 @@ module _ (form image out : List ℕ) where
       let done = boot-done layout form image out (sym (boot-told layout form image out) ∙ ok) in
       (ap (λ (o : Outcome). o .records) done, ap (λ (o : Outcome). o .out) done)
 
-  -- Bytes behind the image's size stay, and bytes behind the records
+  -- No buffer changes its length; bytes behind the image's size stay, and bytes behind the records
+  pub boot-keeps-lengths : (length (boots .image) ≡ length image) × (length (boots .out) ≡ length out)
+  boot-keeps-lengths = (boot-image-length layout form image out, boot-out-length layout form image out)
+
   pub boot-behind-the-image : (i : ℕ) → imageSize layout (linesOf form) ≤ i → getD (boots .image) i 0 ≡ getD image i 0
   boot-behind-the-image = boot-behind-image layout form image out
 
@@ -136,7 +147,11 @@ module _ (image : List ℕ) (port : ℕ) (frame out : List ℕ) where
       → getD (delivers .image) i 0 ≡ getD image i 0
   deliver-changes-only bytes i = deliver-only layout lastTick image port frame out i bytes
 
-  -- Bytes behind the image's size stay, and bytes behind the records
+  -- No buffer changes its length; bytes behind the image's size stay, and bytes behind the records
+  pub deliver-keeps-lengths : (length (delivers .image) ≡ length image) × (length (delivers .out) ≡ length out)
+  deliver-keeps-lengths =
+      (deliver-image-length layout lastTick image port frame out, deliver-out-length layout lastTick image port frame out)
+
   pub deliver-behind-the-image : (i : ℕ) → imageSize layout (getD image 0 0) ≤ i → getD (delivers .image) i 0 ≡ getD image i 0
   deliver-behind-the-image = deliver-behind-image layout lastTick image port frame out
 
@@ -202,6 +217,20 @@ module _ (image : List ℕ) where
       → fixedHeader layout image ≡ true
       → putState layout image (stateOf layout image) ≡ image
   image-again = state-again layout image
+
+-- ---- The tests of the definitions, in the paper's words
+
+-- An image is sound where every condition of the paper holds (specs/Sound.antt)
+pub sound-image : (image : List ℕ) → (soundImage layout lastTick image ≡ true) ↔ SoundImage layout lastTick image
+sound-image = sound-says layout lastTick
+
+-- The rule that fires is the first of R1 to R5 whose condition holds, with the greatest l or x (specs/Which.antt of rules)
+pub rule-that-fires :
+    (rows : List Row) (p : Node) (rule : Rule)
+    -- number 4 would accept the roster
+    → (Twice (serialsIn rows) → ⊥)
+    → (firstRule window lastTick rows p ≡ rule) ↔ Fires window lastTick rows p rule
+rule-that-fires = which-says window lastTick
 
 -- ---- Evidence, over any calls from any senders, refused ones among them
 

@@ -3,12 +3,11 @@
 -- Assumes nothing.
 use mathlib.Core.Path.{_≡_, refl, sym, ap, _∙_, subst}
 use mathlib.Core.Logic.{_↔_, inl, inr, ⊎-elim}
-use mathlib.Core.Bool.{true, not}
+use mathlib.Core.Bool.{not}
 use mathlib.Core.List.{List, [], _∷_, List·Memᴰ, List·Memᴰ·head, List·Memᴰ·tail, List·Memᴰ·cases-cons, List·Memᴰ·not-nil}
 use Prim.Native.Nat.{ℕ, _+_, _-_, _≤_, _<_}
 use native.Mathlib.Decide.{decLt, ℕ-discrete}
 use native.Mathlib.Omega.{arith}
-use borrow.Author.Tests.{eq-eqb}
 use lib.ListN.{length, getD}
 use Rattle.fields.specs.Field.{field}
 use Rattle.fields.proofs.Fields.{field-zero}
@@ -24,9 +23,9 @@ use Rattle.evidence.proofs.Growth.{Kept, AllKept}
 use Rattle.evidence.proofs.Layouts.{serials-of-rows}
 use Rattle.rules.specs.declared.node.Rule.the-variants.{Rest}
 use Rattle.rules.proofs.Which.{which-says}
-use Rattle.node.specs.Image.{Layout, headerSize, nodeOf, rowsOf, stateOf, fixedHeader, soundImage}
+use Rattle.node.specs.Image.{Layout, headerSize, nodeOf, rowsOf, stateOf, soundImage}
 use Rattle.node.specs.Sound.{SoundSet, SoundImage}
-use Rattle.node.proofs.Images.{Fixed, fixed-facts}
+use Rattle.node.proofs.Images.{fixed-facts, fixed-test}
 use Rattle.node.proofs.Sound.{SoundBytes, sound-bytes, bytes-sound}
 
 -- ---- sets
@@ -88,18 +87,6 @@ zeros-say b = (
 
     word : (a : ℕ) → ((i : ℕ) → 20 ≤ i → i < headerSize → getD b i 0 ≡ 0) → 20 ≤ a → a ≤ 28 → field 4 b a ≡ 0
     word a h p q = field-zero 4 b a .1 (λ k l. h (a + k) (omega arith) (omega arith))
-
-fixed-test : (L : Layout) (b : List ℕ) → Fixed L b → fixedHeader L b ≡ true
-unfolding fixedHeader
-fixed-test L b h =
-    rw (
-      eq-eqb _ _ (h .mark),
-      eq-eqb _ _ (h .offset),
-      eq-eqb _ _ (h .size),
-      eq-eqb _ _ (h .zero₁),
-      eq-eqb _ _ (h .zero₂),
-      eq-eqb _ _ (h .zero₃),
-    )
 
 -- ---- the roster
 

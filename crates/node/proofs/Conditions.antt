@@ -100,7 +100,9 @@ accepted n f own serials e =
 -- an image has a row for each of its n lines
 image-lines : (L : Layout) (b : List ℕ) → length (serialsIn (rowsOf L b)) ≡ nodeOf b .lines
 unfolding nodeOf
-image-lines L b = ap length (serials-of-rows (L .masks) (getD b 0 0) b headerSize) ∙ length-words (getD b 0 0) (rowSize (L .masks)) b headerSize
+image-lines L b =
+    ap length (serials-of-rows (L .masks) (getD b 0 0) b headerSize)
+    ∙ length-words (getD b 0 0) (rowSize (L .masks)) b headerSize
 
 -- ---- the whole image
 

@@ -2,14 +2,15 @@
 -- Assumes nothing.
 use mathlib.Core.Path.{_≡_, refl, ap, ap₂, _∙_}
 use mathlib.Core.Logic.{inl}
-use mathlib.Core.Bool.{Bool, true, false, cond, _&&_}
+use mathlib.Core.Bool.{Bool, true, false, cond}
 use mathlib.Core.List.{List, [], _∷_}
 use Prim.Native.Nat.{ℕ, suc, _+_, _-_, _<_}
 use native.Mathlib.Omega.{arith}
 use borrow.Author.Tests.{lt-leb}
 use lib.ListN.{length}
-use lib.Dec.{ltb, leb, eqb}
+use lib.Dec.{eqb}
 use lib.Pow.{pow-pos}
+use Rattle.fields.specs.Kind.{INIT, ECHO}
 use Rattle.forms.specs.Roster.{rosterNumber}
 use Rattle.sets.specs.Ticks.{empty, holds}
 use Rattle.evidence.specs.Rows.{setOf}
@@ -19,12 +20,12 @@ use Rattle.evidence.proofs.Greatest.{greatest-none}
 use Rattle.evidence.proofs.Growth.{Kept, AllKept}
 use Rattle.sets.proofs.Members.{bare}
 use Rattle.rules.specs.Describe.{freshNode, freshRows}
-use Rattle.rules.specs.Rules.{orJump, orWake, firstRule}
-use Rattle.rules.specs.declared.node.Rule.the-variants.{Rest, Echo, Tick}
+use Rattle.rules.specs.Rules.{firstRule}
+use Rattle.rules.specs.declared.node.Rule.the-variants.{Rest}
 use Rattle.forms.proofs.Rosters.{roster-limits}
 use Rattle.node.proofs.Sound.{Sound}
 
-pub fresh-serials : (serials : List ℕ) → serialsIn (freshRows serials) ≡ serials
+fresh-serials : (serials : List ℕ) → serialsIn (freshRows serials) ≡ serials
 unfolding freshRows
 fresh-serials [] = refl
 fresh-serials (x ∷ xs) = ap (λ (l : List ℕ). x ∷ l) (fresh-serials xs)
@@ -35,7 +36,8 @@ fresh-length [] = refl
 fresh-length (x ∷ xs) = ap suc (fresh-length xs)
 
 empty-kept : (w last : ℕ) → Kept w last empty
-empty-kept w last = record { bounded = omega arith; good = record { narrow = pow-pos w; low = pow-pos (0 + 1); shape = inl (refl, refl) } }
+empty-kept w last =
+    record { bounded = omega arith; good = record { narrow = pow-pos w; low = pow-pos (0 + 1); shape = inl (refl, refl) } }
 
 fresh-kept : (w last : ℕ) (serials : List ℕ) → AllKept w last (freshRows serials)
 unfolding freshRows
@@ -46,7 +48,7 @@ fresh-kept w last (x ∷ xs) = ((empty-kept w last, empty-kept w last), fresh-ke
 fresh-held : (w kind t : ℕ) (serials : List ℕ) → holders w kind t (freshRows serials) ≡ 0
 unfolding holders freshRows setOf
 fresh-held w kind t [] = refl
-fresh-held w kind t (x ∷ xs) = ap₂ _+_ (go (eqb kind 2)) (fresh-held w kind t xs)
+fresh-held w kind t (x ∷ xs) = ap₂ _+_ (go (eqb kind ECHO)) (fresh-held w kind t xs)
   where
     go : (e : Bool) → holds w (cond e empty empty) t ≡ 0
     go true = bare w empty refl t
@@ -55,19 +57,26 @@ fresh-held w kind t (x ∷ xs) = ap₂ _+_ (go (eqb kind 2)) (fresh-held w kind 
 fresh-none : (w kind m low : ℕ) (serials : List ℕ) → greatest w kind m low (freshRows serials) ≡ 0
 fresh-none w kind m low serials = greatest-none w kind m low (freshRows serials) (λ t p q r. omega (arith, fresh-held w kind t serials))
 
-fresh-rest : (w last f own : ℕ) (serials : List ℕ) → f < length serials → firstRule w last (freshRows serials) (freshNode (length serials) f own) ≡ Rest
+-- so no rule can fire
+fresh-rest :
+    (w last f own : ℕ) (serials : List ℕ)
+    → f < length serials
+    → firstRule w last (freshRows serials) (freshNode (length serials) f own) ≡ Rest
 unfolding firstRule
 fresh-rest w last f own serials p =
-    ap₂ (λ (a b : Bool). cond (a && ltb 0 0) Echo (cond (b && ltb 0 0) Echo (cond (leb (length serials - f) (holders w 2 0 (freshRows serials)) && ltb 0 last) Tick (orJump (greatest w 2 (f + 1) (0 + 2) (freshRows serials)) (orWake (greatest w 1 (f + 1) 0 (freshRows serials)))))))
-    (few 1) (few 2)
-    ∙ ap (λ (c : Bool). cond (c && ltb 0 last) Tick (orJump (greatest w 2 (f + 1) (0 + 2) (freshRows serials)) (orWake (greatest w 1 (f + 1) 0 (freshRows serials)))))
-    (lt-leb (length serials - f) (holders w 2 0 (freshRows serials)) (omega (arith, fresh-held w 2 0 serials)))
-    ∙ ap₂ (λ (l x : ℕ). orJump l (orWake x)) (fresh-none w 2 (f + 1) (0 + 2) serials) (fresh-none w 1 (f + 1) 0 serials)
-  where
-    few : (kind : ℕ) → leb (f + 1) (holders w kind 0 (freshRows serials)) ≡ false
-    few kind = lt-leb (f + 1) (holders w kind 0 (freshRows serials)) (omega (arith, fresh-held w kind 0 serials))
+    rw (
+      fresh-held w INIT 0 serials,
+      fresh-held w ECHO 0 serials,
+      lt-leb (f + 1) 0 (omega arith),
+      lt-leb (length serials - f) 0 (omega arith),
+      fresh-none w ECHO (f + 1) 2 serials,
+      fresh-none w INIT (f + 1) 0 serials,
+    )
 
-pub fresh-sound : (w last f own : ℕ) (serials : List ℕ) → rosterNumber f own serials ≡ 0 → Sound w last (record { node = freshNode (length serials) f own; rows = freshRows serials })
+pub fresh-sound :
+    (w last f own : ℕ) (serials : List ℕ)
+    → rosterNumber f own serials ≡ 0
+    → Sound w last (record { node = freshNode (length serials) f own; rows = freshRows serials })
 fresh-sound w last f own serials e =
     record {
       roster = ap (rosterNumber f own) (fresh-serials serials) ∙ e;

@@ -41,7 +41,7 @@ pub record SoundBytes (L : Layout) (last : ℕ) (b : List ℕ) : Type 0 where
   pub node : Sound (L .window) last (stateOf L b)
 
 module _ (w last : ℕ) (s : State) where
-  pub sound-node : soundState w last s ≡ true → Sound w last s
+  sound-node : soundState w last s ≡ true → Sound w last s
   unfolding soundState
   sound-node e =
       let roster = and-eq-true-iff _ _ .0 e in
@@ -58,7 +58,7 @@ module _ (w last : ℕ) (s : State) where
         rest = rest-true _ (proper .1);
       }
 
-  pub node-sound : Sound w last s → soundState w last s ≡ true
+  node-sound : Sound w last s → soundState w last s ≡ true
   unfolding soundState
   node-sound h =
       rw (
@@ -87,7 +87,12 @@ module _ (L : Layout) (last : ℕ) (b : List ℕ) where
   pub bytes-sound : SoundBytes L last b → soundImage L last b ≡ true
   unfolding soundImage
   bytes-sound h =
-      rw (le-ltb (length b) 32 (h .header), le-ltb (length b) (field 2 b 18) (h .stated), h .fixed, node-sound (L .window) last (stateOf L b) (h .node))
+      rw (
+        le-ltb (length b) headerSize (h .header),
+        le-ltb (length b) (field 2 b 18) (h .stated),
+        h .fixed,
+        node-sound (L .window) last (stateOf L b) (h .node),
+      )
 
 -- ---- the rows lie inside the stated size, which is what n says
 
@@ -98,14 +103,15 @@ rows-inside L b e p = subst (λ (n : ℕ). n ≤ length b) (fixed-facts L b e .s
 
 -- f and n are within the limits
 pub roster-lines : (f own n s : ℕ) (b : List ℕ) (i : ℕ) → rosterNumber f own (words n s b i) ≡ 0 → Limits f n
-roster-lines f own n s b i z = subst (λ (m : ℕ). Limits f m) (length-words n s b i) (roster-limits f own (words n s b i) z)
+roster-lines f own n s b i z = rw (length-words n s b i) at (roster-limits f own (words n s b i) z)
 
 -- the same of rows, whose serials are such a column
-rows-roster : (f own mb n : ℕ) (b : List ℕ) (i : ℕ) → rosterNumber f own (serialsIn (rowsAt mb n b i)) ≡ 0 → rosterNumber f own (words n (rowSize mb) b i) ≡ 0
-rows-roster f own mb n b i z = rw (serials-of-rows mb n b i) at z
+module _ (f own mb n : ℕ) (b : List ℕ) (i : ℕ) (z : rosterNumber f own (serialsIn (rowsAt mb n b i)) ≡ 0) where
+  rows-roster : rosterNumber f own (words n (rowSize mb) b i) ≡ 0
+  rows-roster = rw (serials-of-rows mb n b i) at z
 
-pub rows-limits : (f own mb n : ℕ) (b : List ℕ) (i : ℕ) → rosterNumber f own (serialsIn (rowsAt mb n b i)) ≡ 0 → Limits f n
-rows-limits f own mb n b i z = roster-lines f own n (rowSize mb) b i (rows-roster f own mb n b i z)
+  pub rows-limits : Limits f n
+  rows-limits = roster-lines f own n (rowSize mb) b i rows-roster
 
 -- ---- what a sound image gives to a delivery
 
@@ -114,7 +120,7 @@ module _ (last : ℕ) (b : List ℕ) (h : SoundBytes layout last b) where
   unfolding stateOf nodeOf
   sound-roster = rows-roster (getD b 1 0) (field 4 b 4) maskBytes (getD b 0 0) b headerSize (h .node .roster)
 
-  pub sound-limits : Limits (getD b 1 0) (getD b 0 0)
+  sound-limits : Limits (getD b 1 0) (getD b 0 0)
   sound-limits = roster-lines (getD b 1 0) (field 4 b 4) (getD b 0 0) rowBytes b headerSize sound-roster
 
   pub sound-rows : RowsIn (nodeOf b) b headerSize

@@ -5,15 +5,16 @@ use mathlib.Core.Path.{_≡_, refl, sym, ap, _∙_}
 use mathlib.Core.Bool.{Bool, true, false, cond}
 use mathlib.Core.Logic.{_⊎_, inl, inr}
 use mathlib.Core.List.{List}
-use Prim.Native.Nat.{ℕ, zero, suc, _≤_}
+use Prim.Native.Nat.{ℕ, zero, suc, _≤_, _<_}
 use native.Mathlib.Decide.{decLe, ℕ-discrete}
 use native.Mathlib.Omega.{arith}
 use lib.ListN.{length, getD}
-use lib.Dec.{ltb, eqb}
+use lib.Dec.{ltb, eqb, lit<}
 use borrow.Author.Tests.{ltb-false, eqb-false}
 use Rattle.fields.specs.Field.{field}
-use Rattle.forms.specs.Form.{linesOf, faultsOf, ownOf, formNumber, FormTold, formTold, toldBy}
-use Rattle.forms.specs.Frame.{frameNumber}
+use Rattle.fields.specs.Kind.{INIT, ECHO}
+use Rattle.forms.specs.Form.{serialsPlace, linesOf, faultsOf, ownOf, formNumber, FormTold, formTold, toldBy}
+use Rattle.forms.specs.Frame.{frameSize, frameNumber}
 use Rattle.forms.specs.Number.{numberOf, orElse}
 use Rattle.forms.specs.Roster.{count}
 use Rattle.forms.specs.declared.answer.Refusal.{Refusal}
@@ -23,10 +24,25 @@ use Rattle.forms.specs.declared.form.FormRead.the-variants.{Taken as TakenForm}
 use Rattle.forms.proofs.Meaning.{frame-told, frame-says}
 use Rattle.forms.proofs.Rosters.{Limits}
 use Rattle.forms.proofs.Told.{refusal, told-taken, form-taken, form-roster}
-use Rattle.rules.specs.Describe.{room as asked}
+use Rattle.rules.specs.Describe.{room}
 use Rattle.node.specs.Calls.{bootNumber, deliverNumber}
 use Rattle.node.specs.Image.{Layout, imageSize, rosterIn, soundImage}
 use Rattle.node.proofs.Sound.{roster-lines}
+
+-- ---- a call with number 0 has passed each test
+
+-- a number of its own where a test fails, and the next one past it
+passed : (t : Bool) (number next : ℕ) → 0 < number → cond t number next ≡ 0 → (t ≡ false) × (next ≡ 0)
+passed true number next p e = absurd (omega arith)
+passed false number next p e = (refl, e)
+
+past-form : (number next : ℕ) → orElse number next ≡ 0 → (number ≡ 0) × (next ≡ 0)
+past-form zero next e = (refl, e)
+past-form (suc n) next e = absurd (omega arith)
+
+past-image : (t : Bool) (next : ℕ) → cond t next 8 ≡ 0 → (t ≡ true) × (next ≡ 0)
+past-image true next e = (refl, e)
+past-image false next e = absurd (omega arith)
 
 -- ---- a form
 
@@ -36,21 +52,27 @@ else-first zero next e = absurd (eqb-false 0 0 e refl)
 else-first (suc n) next e = refl
 
 -- what refuses the form refuses boot
-pub form-refuses : (L : Layout) (form : List ℕ) (imageLength outLength : ℕ) (why : Refusal) → formNumber form ≡ numberOf why → bootNumber L form imageLength outLength ≡ numberOf why
+pub form-refuses :
+    (L : Layout) (form : List ℕ) (imageLength outLength : ℕ) (why : Refusal)
+    → formNumber form ≡ numberOf why
+    → bootNumber L form imageLength outLength ≡ numberOf why
 unfolding bootNumber
 form-refuses L form imageLength outLength why e = rw e (else-first (numberOf why) _ (refusal why))
 
 module _ (b : List ℕ) where
   -- the fields that the reader told are the form's own
-  pub told-form : (read : FormRead) (form : Form) → toldBy read ≡ formTold b → read ≡ TakenForm form →
-      (formNumber b ≡ 0) × (_≡_ {A = Form} form (record { lines = linesOf b; faults = faultsOf b; own = ownOf b }))
+  pub told-form :
+      (read : FormRead) (form : Form)
+      → toldBy read ≡ formTold b
+      → read ≡ TakenForm form
+      → (formNumber b ≡ 0) × (_≡_ {A = Form} form (record { lines = linesOf b; faults = faultsOf b; own = ownOf b }))
   told-form read form told e =
       let said : toldBy (TakenForm form) ≡ formTold b = ap toldBy (sym e) ∙ told in
       let z = told-taken b (form .lines) (form .faults) (form .own) said .0 in
       (z, ap (λ (t : FormTold). record { lines = t .lines; faults = t .faults; own = t .own }) (said ∙ form-taken b z))
 
   pub form-limits : formNumber b ≡ 0 → Limits (faultsOf b) (linesOf b)
-  form-limits z = roster-lines (faultsOf b) (ownOf b) (linesOf b) 4 b 8 (form-roster b z)
+  form-limits z = roster-lines (faultsOf b) (ownOf b) (linesOf b) 4 b serialsPlace (form-roster b z)
 
 -- ---- boot
 
@@ -58,50 +80,55 @@ module _ (b : List ℕ) where
 pub record Started (L : Layout) (form : List ℕ) (imageLength outLength : ℕ) : Type 0 where
   pub roster : formNumber form ≡ 0
   pub image : imageSize L (linesOf form) ≤ imageLength
-  pub out : asked ≤ outLength
+  pub out : room ≤ outLength
 
-pub boot-taken : (L : Layout) (form : List ℕ) (imageLength outLength : ℕ) → bootNumber L form imageLength outLength ≡ 0 → Started L form imageLength outLength
+pub boot-taken :
+    (L : Layout) (form : List ℕ) (imageLength outLength : ℕ)
+    → bootNumber L form imageLength outLength ≡ 0
+    → Started L form imageLength outLength
 unfolding bootNumber
-boot-taken L form imageLength outLength e = go (formNumber form) refl (ltb imageLength (imageSize L (linesOf form))) refl (ltb outLength asked) refl e
-  where
-    go : (n : ℕ) → formNumber form ≡ n → (a : Bool) → ltb imageLength (imageSize L (linesOf form)) ≡ a → (b : Bool) → ltb outLength asked ≡ b → orElse n (cond a 6 (cond b 7 0)) ≡ 0 → Started L form imageLength outLength
-    go (suc n) f a p b q r = absurd (omega arith)
-    go zero f true p b q r = absurd (omega arith)
-    go zero f false p true q r = absurd (omega arith)
-    go zero f false p false q r = record { roster = f; image = ltb-false imageLength (imageSize L (linesOf form)) p; out = ltb-false outLength asked q }
+boot-taken L form imageLength outLength e =
+    let roster = past-form (formNumber form) _ e in
+    let image = passed (ltb imageLength (imageSize L (linesOf form))) 6 _ (lit< tt) (roster .1) in
+    let out = passed (ltb outLength room) 7 _ (lit< tt) (image .1) in
+    record { roster = roster .0; image = ltb-false _ _ (image .0); out = ltb-false _ _ (out .0) }
 
 -- ---- a frame and a delivery
 
 -- a frame that is taken is 8 long, of a known kind, and not late
 pub record WholeFrame (last : ℕ) (b : List ℕ) : Type 0 where
-  pub size : length b ≡ 8
-  pub kind : (getD b 0 0 ≡ 1) ⊎ (getD b 0 0 ≡ 2)
+  pub size : length b ≡ frameSize
+  pub kind : (getD b 0 0 ≡ INIT) ⊎ (getD b 0 0 ≡ ECHO)
   pub tick : field 4 b 4 ≤ last
 
 pub frame-whole : (last : ℕ) (b : List ℕ) → frameNumber last b ≡ 0 → WholeFrame last b
 frame-whole last b z =
     let given = frame-says last b .exactly 0 .0 (frame-told last b ∙ z) in
     record {
-      size = elim (ℕ-discrete (length b) 8) [ yes e ↦ e | no ne ↦ absurd (given .0 (inl (inl (inl (inl ne))))) ];
-      kind = elim (ℕ-discrete (getD b 0 0) 1) [ yes e ↦ inl e | no ne ↦ inr (elim (ℕ-discrete (getD b 0 0) 2) [ yes e ↦ e | no nf ↦ absurd (given .0 (inl (inl (inl (inr (ne, nf)))))) ]) ];
+      size = elim (ℕ-discrete (length b) frameSize) [ yes e ↦ e | no ne ↦ absurd (given .0 (inl (inl (inl (inl ne))))) ];
+      kind = elim (ℕ-discrete (getD b 0 0) INIT) [
+        | yes e ↦ inl e
+        | no ni ↦ elim (ℕ-discrete (getD b 0 0) ECHO) [
+          | yes e ↦ inr e
+          | no ne ↦ absurd (given .0 (inl (inl (inl (inr (ni, ne))))))
+        ]
+      ];
       tick = elim (decLe (field 4 b 4) last) [ yes p ↦ p | no np ↦ absurd (given .1 .0 (omega arith)) ];
     }
 
 pub record Taken (L : Layout) (last : ℕ) (image : List ℕ) (port : ℕ) (frame : List ℕ) (outLength : ℕ) : Type 0 where
-  pub room : asked ≤ outLength
+  pub space : room ≤ outLength
   pub sound : soundImage L last image ≡ true
   pub listed : count port (rosterIn L image) ≡ 0 → ⊥
   pub shape : frameNumber last frame ≡ 0
 
-pub deliver-taken : (L : Layout) (last : ℕ) (image : List ℕ) (port : ℕ) (frame : List ℕ) (outLength : ℕ) →
-    deliverNumber L last image port frame outLength ≡ 0 → Taken L last image port frame outLength
+pub deliver-taken :
+    (L : Layout) (last : ℕ) (image : List ℕ) (port : ℕ) (frame : List ℕ) (outLength : ℕ)
+    → deliverNumber L last image port frame outLength ≡ 0
+    → Taken L last image port frame outLength
 unfolding deliverNumber
-deliver-taken L last image port frame outLength z =
-    go (ltb outLength asked) refl (soundImage L last image) refl (eqb (count port (rosterIn L image)) 0) refl z
-  where
-    go : (r : Bool) → ltb outLength asked ≡ r → (s : Bool) → soundImage L last image ≡ s → (t : Bool) → eqb (count port (rosterIn L image)) 0 ≡ t →
-        cond r 7 (cond s (cond t 9 (frameNumber last frame)) 8) ≡ 0 → Taken L last image port frame outLength
-    go true p s q t u e = absurd (omega arith)
-    go false p true q true u e = absurd (omega arith)
-    go false p true q false u e = record { room = ltb-false outLength asked p; sound = q; listed = eqb-false _ 0 u; shape = e }
-    go false p false q t u e = absurd (omega arith)
+deliver-taken L last image port frame outLength e =
+    let space = passed (ltb outLength room) 7 _ (lit< tt) e in
+    let sound = past-image (soundImage L last image) _ (space .1) in
+    let listed = passed (eqb (count port (rosterIn L image)) 0) 9 _ (lit< tt) (sound .1) in
+    record { space = ltb-false _ _ (space .0); sound = sound .0; listed = eqb-false _ 0 (listed .0); shape = listed .1 }

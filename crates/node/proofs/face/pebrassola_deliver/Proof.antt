@@ -69,7 +69,7 @@ deliver-requires c κs =
     rw (c .before .before .read-node .ensures)
     (record {
       rows = sound-rows lastTick (now (a .image)) h;
-      space = taken (c .before .before .before .before .before .before) .room;
+      space = taken (c .before .before .before .before .before .before) .space;
       once = sound-once lastTick (now (a .image)) h _;
     })
 

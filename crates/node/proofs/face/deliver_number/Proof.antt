@@ -1,4 +1,5 @@
--- `face::deliver_number` meets its contract: the tests are those of the definition, one after the other, and the rows of a sound image lie inside the buffer.
+-- `face::deliver_number` meets its contract: the tests are those of the definition, one after the other, and the rows of a sound image
+-- lie inside the buffer.
 -- Assumes nothing.
 use borrow.Author.Needs.{needs}
 use mathlib.Core.Path.{_≡_, sym, ap, _∙_}
@@ -11,7 +12,7 @@ use Rattle.forms.specs.Frame.{FrameTold, toldBy}
 use Rattle.forms.specs.declared.frame.FrameRead.{FrameRead}
 use Rattle.forms.proofs.Meaning.{frame-told}
 use Rattle.node.specs.Calls.{deliverNumber}
-use Rattle.rules.specs.Describe.{lastTick}
+use Rattle.rules.specs.Describe.{room, lastTick}
 use Rattle.node.specs.Image.{layout, soundImage}
 use Rattle.node.proofs.Sound.{SoundBytes, sound-bytes, rows-inside}
 use Rattle.node.proofs.face.deliver_number.Statement.{statement}
@@ -21,7 +22,7 @@ returns : tie.Need-returns
 unfolding deliverNumber
 returns c =
     let a = c .before .before .before .args in
-    rw (lt-ltb (a .room) 192 (omega arith))
+    rw (lt-ltb (a .room) room (omega arith))
 
 is-sound-requires : tie.Need-is-sound-requires
 is-sound-requires c κs = search needs
@@ -30,7 +31,10 @@ returns-2 : tie.Need-returns-2
 unfolding deliverNumber
 returns-2 c =
     let a = c .before .before .before .before .before .args in
-    rw (le-ltb (a .room) 192 (c .before .before .if1 .left), sym (c .before .is-sound .ensures) ∙ not-true (c .before .is-sound .result) (c .if2 .taken))
+    rw (
+      le-ltb (a .room) room (c .before .before .if1 .left),
+      sym (c .before .is-sound .ensures) ∙ not-true (c .before .is-sound .result) (c .if2 .taken),
+    )
 
 -- past the second test the image is sound
 sound : (c : tie.Else2) → soundImage layout lastTick (now (c .before .before .before .before .before .args .image)) ≡ true
@@ -46,14 +50,16 @@ cast-n : tie.Need-cast-n
 cast-n c = omega (arith, c .shared-slice-known3 .given 0)
 
 count-word-requires : tie.Need-count-word-requires
-count-word-requires c κs = let h = facts (c .before) in (lit≤ tt, rows-inside layout (now (c .before .before .before .before .before .before .args .image)) (h .fixed) (h .stated))
+count-word-requires c κs =
+    let h = facts (c .before) in
+    (lit≤ tt, rows-inside layout (now (c .before .before .before .before .before .before .args .image)) (h .fixed) (h .stated))
 
 returns-3 : tie.Need-returns-3
 unfolding deliverNumber
 returns-3 c =
     let a = c .before .before .before .before .before .before .before .before .args in
     rw (
-      le-ltb (a .room) 192 (c .before .before .before .before .before .if1 .left),
+      le-ltb (a .room) room (c .before .before .before .before .before .if1 .left),
       sound (c .before .before .before),
       ← c .before .count-word .ensures .0,
       eq-eqb (c .before .count-word .result) 0 (c .if3 .taken),
@@ -79,7 +85,7 @@ unfolding deliverNumber
 told c =
     let a = c .before .before .before .before .before .before .before .before .before .args in
     rw (
-      le-ltb (a .room) 192 (c .before .before .before .before .before .before .if1 .left),
+      le-ltb (a .room) room (c .before .before .before .before .before .before .if1 .left),
       sound (c .before .before .before .before),
       ← c .before .before .count-word .ensures .0,
       ne-eqb (c .before .before .count-word .result) 0 (c .before .if3 .left),
@@ -87,7 +93,9 @@ told c =
     (sym (frame-told lastTick (now (a .frame))) ∙ ap (λ (t : FrameTold). t .number) (sym (c .read-frame .ensures)))
 
 returns-4 : tie.Need-returns-4
-returns-4 c = c .number .ensures ∙ sym (told (c .before .before .before .before) ∙ ap (λ (r : FrameRead). toldBy r .number) (c .before .before .why .given .1))
+returns-4 c =
+    let why = c .before .before in
+    c .number .ensures ∙ sym (told (why .before .before) ∙ ap (λ (r : FrameRead). toldBy r .number) (why .why .given .1))
 
 returns-5 : tie.Need-returns-5
 returns-5 c = sym (told (c .before .before) ∙ ap (λ (r : FrameRead). toldBy r .number) (c .enum-told .given .1))

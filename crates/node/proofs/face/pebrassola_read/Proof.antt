@@ -34,7 +34,9 @@ shared-slice-read-if2 c = omega (arith, facts (c .before) .header)
 
 returns-2 : tie.Need-returns-2
 unfolding reading readNumber
-returns-2 c = rw (sound (c .before .before), eq-eqb (getD (now (c .before .before .before .before .before .args .image)) 2 0) 0 (omega arith))
+returns-2 c =
+    let image = now (c .before .before .before .before .before .args .image) in
+    rw (sound (c .before .before), eq-eqb (getD image 2 0) 0 (omega arith))
 
 word-requires : tie.Need-word-requires
 word-requires c κs = omega (arith, facts (c .before .before) .header)

@@ -10,7 +10,7 @@ use borrow.Author.Tests.{lt-ltb, le-ltb, not-true, not-false}
 use Rattle.fields.specs.Field.{field}
 use Rattle.evidence.specs.Rows.{rowsAt}
 use Rattle.rules.specs.Describe.{window, lastTick}
-use Rattle.node.specs.Image.{layout, nodeOf, stateOf, fixedHeader, soundState, soundImage}
+use Rattle.node.specs.Image.{layout, headerSize, nodeOf, stateOf, stateWith, fixedHeader, soundState, soundImage}
 use Rattle.rules.specs.declared.node.Node.{Node}
 use Rattle.node.proofs.Sound.{rows-inside}
 use Rattle.node.proofs.image.is_sound.Statement.{statement}
@@ -20,7 +20,7 @@ returns : tie.Need-returns
 unfolding soundImage
 returns c =
     let b = now (c .before .before .args .b) in
-    rw (lt-ltb (length b) 32 (omega arith))
+    rw (lt-ltb (length b) headerSize (omega arith))
 
 half-requires : tie.Need-half-requires
 half-requires c κs = search needs
@@ -32,7 +32,7 @@ returns-2 : tie.Need-returns-2
 unfolding soundImage
 returns-2 c =
     let b = now (c .before .before .before .before .args .b) in
-    rw (le-ltb (length b) 32 (omega arith), lt-ltb (length b) (field 2 b 18) (omega arith))
+    rw (le-ltb (length b) headerSize (omega arith), lt-ltb (length b) (field 2 b 18) (omega arith))
 
 has-fixed-header-requires : tie.Need-has-fixed-header-requires
 has-fixed-header-requires c κs = search needs
@@ -42,7 +42,7 @@ unfolding soundImage
 returns-3 c =
     let b = now (c .before .before .before .before .before .before .args .b) in
     rw (
-      le-ltb (length b) 32 (omega arith),
+      le-ltb (length b) headerSize (omega arith),
       le-ltb (length b) (field 2 b 18) (omega arith),
       ← c .before .has-fixed-header .ensures,
       not-true (c .before .has-fixed-header .result) (c .if3 .taken),
@@ -65,8 +65,8 @@ returns-4 : tie.Need-returns-4
 unfolding soundImage stateOf nodeOf
 returns-4 c =
     let b = now (c .before .before .before .before .before .before .before .before .args .b) in
-    rw (le-ltb (length b) 32 (omega arith), le-ltb (length b) (field 2 b 18) (omega arith), fixed (c .before .before))
-    (c .is-sound-state .ensures ∙ ap (λ (p : Node). soundState window lastTick (record { node = p; rows = rowsAt 8 (p .lines) b 32 })) (c .before .read-node .ensures))
+    rw (le-ltb (length b) headerSize (omega arith), le-ltb (length b) (field 2 b 18) (omega arith), fixed (c .before .before))
+    (c .is-sound-state .ensures ∙ ap (λ (p : Node). soundState window lastTick (stateWith layout p b)) (c .before .read-node .ensures))
 
 pub is-sound-spec : {M : Type 1} → statement M
 is-sound-spec =

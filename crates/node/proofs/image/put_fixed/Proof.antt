@@ -21,13 +21,17 @@ put-half-requires c κs = simp length-set (omega arith)
 half-length : (c : tie.After-put-half) → length (c .put-half .last .0) ≡ length (now (c .before .before .before .args .b))
 half-length c = simp length-set at (c .put-half .kept .0)
 
-half2-length : (c : tie.After-put-half2) → length (c .put-half2 .last .0) ≡ length (now (c .before .before .before .before .before .before .before .args .b))
+half2-length : (c : tie.After-put-half2) →
+    length (c .put-half2 .last .0) ≡ length (now (c .before .before .before .before .before .before .before .args .b))
 half2-length c = omega (arith, c .put-half2 .kept .0, half-length (c .before .before .before .before))
 
-word-length : (c : tie.After-put-word) → length (c .put-word .last .0) ≡ length (now (c .before .before .before .before .before .before .before .before .before .before .before .args .b))
+word-length : (c : tie.After-put-word) →
+    length (c .put-word .last .0) ≡ length (now (c .before .before .before .before .before .before .before .before .before .before .before .args .b))
 word-length c = omega (arith, c .put-word .kept .0, half2-length (c .before .before .before .before))
 
-word2-length : (c : tie.After-put-word2) → length (c .put-word2 .last .0) ≡ length (now (c .before .before .before .before .before .before .before .before .before .before .before .before .before .before .before .args .b))
+word2-length : (c : tie.After-put-word2) →
+    let word = c .before .before .before .before in
+    length (c .put-word2 .last .0) ≡ length (now (word .before .before .before .before .before .before .before .before .before .before .before .args .b))
 word2-length c = omega (arith, c .put-word2 .kept .0, word-length (c .before .before .before .before))
 
 mul-put-half : tie.Need-mul-put-half
@@ -54,13 +58,18 @@ same-length c = omega (arith, c .before .before .put-word3 .kept .0, word2-lengt
 returns : tie.Need-returns
 unfolding putFixed
 returns c =
+    let word3 = c .before .before in
+    let word2 = word3 .before .before .before .before in
+    let word = word2 .before .before .before .before in
+    let half2 = word .before .before .before .before in
+    let half = half2 .before .before .before .before in
     rw (
-      put-byte (now (c .before .before .before .before .before .before .before .before .before .before .before .before .before .before .before .before .before .before .before .before .before .args .b)) 3 0 (lit< tt),
-      c .before .before .put-word3 .ensures,
-      c .before .before .before .before .before .before .put-word2 .ensures,
-      c .before .before .before .before .before .before .before .before .before .before .put-word .ensures,
-      c .before .before .before .before .before .before .before .before .before .before .before .before .before .before .put-half2 .ensures,
-      c .before .before .before .before .before .before .before .before .before .before .before .before .before .before .before .before .before .before .put-half .ensures,
+      put-byte (now (half .before .before .before .args .b)) 3 0 (lit< tt),
+      word3 .put-word3 .ensures,
+      word2 .put-word2 .ensures,
+      word .put-word .ensures,
+      half2 .put-half2 .ensures,
+      half .put-half .ensures,
     )
 
 pub put-fixed-spec : {M : Type 1} → statement M

@@ -29,7 +29,8 @@ put-word-requires : tie.Need-put-word-requires
 put-word-requires c κs = simp length-set (omega arith)
 
 -- no store changes the length
-word-length : (c : tie.After-put-word) → length (c .put-word .last .0) ≡ length (now (c .before .before .before .before .before .before .before .before .before .args .b))
+word-length : (c : tie.After-put-word) →
+    length (c .put-word .last .0) ≡ length (now (c .before .before .before .before .before .before .before .before .before .args .b))
 word-length c = omega (arith, simp length-set at (c .put-word .kept .0), c .before .before .before .before .before .before .put-fixed .kept .0)
 
 put-clock-requires : tie.Need-put-clock-requires
@@ -41,14 +42,17 @@ same-length c = omega (arith, c .before .before .put-clock .kept .0, word-length
 returns : tie.Need-returns
 unfolding putNode
 returns c =
-    let a = c .before .before .before .before .before .before .before .before .before .before .before .before .before .before .before .args in
+    let clock = c .before .before in
+    let word = clock .before .before .before .before in
+    let put = word .before .before .before .before .before .before in
+    let a = put .before .before .before .args in
     let fixed = putFixed layout (now (a .b)) (a .node .lines) in
     rw (
       put-byte fixed 0 (a .node .lines) (omega arith),
       put-byte (set fixed 0 (a .node .lines)) 1 (a .node .faults) (omega arith),
-      c .before .before .put-clock .ensures,
-      c .before .before .before .before .before .before .put-word .ensures,
-      c .before .before .before .before .before .before .before .before .before .before .before .before .put-fixed .ensures,
+      clock .put-clock .ensures,
+      word .put-word .ensures,
+      put .put-fixed .ensures,
     )
 
 pub put-node-spec : {M : Type 1} → statement M

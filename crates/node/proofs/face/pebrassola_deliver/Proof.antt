@@ -1,4 +1,5 @@
--- `face::pebrassola_deliver` meets its contract: a delivery with number 0 has a sound image, a port on its roster and a whole frame, which is what the engine asks, and the stores are the definition's.
+-- `face::pebrassola_deliver` meets its contract: a delivery with number 0 has a sound image, a port on its roster and a whole frame,
+-- which is what the engine asks, and the stores are the definition's.
 -- Assumes nothing.
 use borrow.Author.Needs.{needs}
 use mathlib.Core.Path.{_≡_, sym, _∙_}
@@ -7,11 +8,13 @@ use denote.Ref.{now}
 use lib.ListN.{length, getD}
 use borrow.Author.Tests.{ne-eqb}
 use Rattle.fields.specs.Field.{field}
+use Rattle.forms.specs.Frame.{frameSize}
+use Rattle.sets.specs.Sets.{maskBytes}
 use Rattle.evidence.specs.Rows.{putRows, credit}
 use Rattle.node.specs.Calls.{deliverNumber, deliveryOf, imageAfter, deliverOutcome}
 use Rattle.rules.specs.Delivery.{delivered}
 use Rattle.rules.specs.Describe.{window, lastTick}
-use Rattle.node.specs.Image.{layout, nodeOf, rowsOf, stateOf}
+use Rattle.node.specs.Image.{layout, headerSize, nodeOf, rowsOf, stateOf}
 use Rattle.rules.specs.Steps.{DeliveredAs}
 use Rattle.rules.proofs.Modes.{InMode, mode-kept, delivered-keeps}
 use Rattle.node.proofs.Sound.{SoundBytes, sound-bytes, sound-rows, sound-once}
@@ -29,24 +32,28 @@ returns : tie.Need-returns
 unfolding deliverOutcome
 returns c = rw (← c .before .deliver-number .ensures, ne-eqb (c .before .deliver-number .result) 0 (c .if1 .taken))
 
+-- where the call starts
+abbrev start : tie.Else1 → tie.Start
+start c = c .before .before .before .before .before .before
+
 -- past the test the number is 0
 success : (c : tie.Else1) →
-    let a = c .before .before .before .before .before .before .args in
+    let a = start c .args in
     deliverNumber layout lastTick (now (a .image)) (a .port) (now (a .frame)) (length (now (a .out))) ≡ 0
 success c = sym (c .before .deliver-number .ensures) ∙ c .if1 .left
 
 taken : (c : tie.Else1) →
-    let a = c .before .before .before .before .before .before .args in
+    let a = start c .args in
     Taken layout lastTick (now (a .image)) (a .port) (now (a .frame)) (length (now (a .out)))
 taken c =
-    let a = c .before .before .before .before .before .before .args in
+    let a = start c .args in
     deliver-taken layout lastTick (now (a .image)) (a .port) (now (a .frame)) (length (now (a .out))) (success c)
 
-sound : (c : tie.Else1) → SoundBytes layout lastTick (now (c .before .before .before .before .before .before .args .image))
-sound c = sound-bytes layout lastTick (now (c .before .before .before .before .before .before .args .image)) (taken c .sound)
+sound : (c : tie.Else1) → SoundBytes layout lastTick (now (start c .args .image))
+sound c = sound-bytes layout lastTick (now (start c .args .image)) (taken c .sound)
 
-whole : (c : tie.Else1) → length (now (c .before .before .before .before .before .before .args .frame)) ≡ 8
-whole c = frame-whole lastTick (now (c .before .before .before .before .before .before .args .frame)) (taken c .shape) .size
+whole : (c : tie.Else1) → length (now (start c .args .frame)) ≡ frameSize
+whole c = frame-whole lastTick (now (start c .args .frame)) (taken c .shape) .size
 
 shared-slice-read-t14 : tie.Need-shared-slice-read-t14
 shared-slice-read-t14 c = omega (arith, whole (c .before))
@@ -64,27 +71,31 @@ read-node-requires c κs = sound (c .before .before .before) .header
 deliver-requires : tie.Need-deliver-requires
 unfolding nodeOf
 deliver-requires c κs =
-    let a = c .before .before .before .before .before .before .before .before .before .before .before .before .args in
-    let h = sound (c .before .before .before .before .before .before) in
+    let passed = c .before .before .before .before .before .before in
+    let image = now (start passed .args .image) in
     rw (c .before .before .read-node .ensures)
     (record {
-      rows = sound-rows lastTick (now (a .image)) h;
-      space = taken (c .before .before .before .before .before .before) .space;
-      once = sound-once lastTick (now (a .image)) h _;
+      rows = sound-rows lastTick image (sound passed);
+      space = taken passed .space;
+      once = sound-once lastTick image (sound passed) _;
     })
 
 -- the frame is credited to the port's row
 credited : (c : tie.After-deliver) →
-    let a = c .before .before .before .before .before .before .before .before .before .before .before .before .before .args in
-    c .deliver .last .1 .0 ≡ putRows 8 (now (a .image)) 32 (credit window (a .port) (getD (now (a .frame)) 0 0) (field 4 (now (a .frame)) 4) (rowsOf layout (now (a .image))))
+    let a = start (c .before .before .before .before .before .before .before) .args in
+    let frame = now (a .frame) in
+    let rows = credit window (a .port) (getD frame 0 0) (field 4 frame 4) (rowsOf layout (now (a .image))) in
+    c .deliver .last .1 .0 ≡ putRows maskBytes (now (a .image)) headerSize rows
 unfolding delivered nodeOf
 credited c =
     rw (c .before .before .before .read-node .ensures, c .before .before .before .before .before .word .ensures) at (c .deliver .ensures .rows)
 
 -- what the engine promises is the delivery of the definition
 done : (c : tie.After-deliver) →
-    let a = c .before .before .before .before .before .before .before .before .before .before .before .before .before .args in
-    DeliveredAs (deliveryOf layout lastTick (now (a .image)) (a .port) (now (a .frame))) (now (a .image)) 32 (now (a .out)) (c .deliver .result) (c .deliver .last .1 .0) (c .deliver .last .1 .1 .1 .1 .1 .0)
+    let a = start (c .before .before .before .before .before .before .before) .args in
+    let d = deliveryOf layout lastTick (now (a .image)) (a .port) (now (a .frame)) in
+    let last = c .deliver .last .1 in
+    DeliveredAs d (now (a .image)) headerSize (now (a .out)) (c .deliver .result) (last .0) (last .1 .1 .1 .1 .0)
 unfolding deliveryOf stateOf nodeOf
 done c = rw (c .before .before .before .read-node .ensures, c .before .before .before .before .before .word .ensures) at (c .deliver .ensures)
 
@@ -92,17 +103,17 @@ done c = rw (c .before .before .before .read-node .ensures, c .before .before .b
 mode : (c : tie.After-deliver) → InMode (c .deliver .result .node)
 unfolding deliveryOf
 mode c =
-    let a = c .before .before .before .before .before .before .before .before .before .before .before .before .before .args in
-    rw (done c .node) (delivered-keeps InMode mode-kept window lastTick (stateOf layout (now (a .image))) (a .port) (getD (now (a .frame)) 0 0) (field 4 (now (a .frame)) 4) (sound (c .before .before .before .before .before .before .before) .node .mode))
+    let passed = c .before .before .before .before .before .before .before in
+    let a = start passed .args in
+    let frame = now (a .frame) in
+    rw (done c .node)
+    (delivered-keeps InMode mode-kept window lastTick (stateOf layout (now (a .image))) (a .port) (getD frame 0 0) (field 4 frame 4)
+    (sound passed .node .mode))
 
 put-clock-requires : tie.Need-put-clock-requires
 put-clock-requires c κs =
-    omega (
-      arith,
-      c .before .before .before .before .before .deliver .kept .1 .0,
-      sound (c .before .before .before .before .before .before .before .before .before .before .before .before) .header,
-      mode (c .before .before .before .before .before),
-    )
+    let engine = c .before .before .before .before .before in
+    omega (arith, engine .deliver .kept .1 .0, sound (engine .before .before .before .before .before .before .before) .header, mode engine)
 
 cast-t15-2 : tie.Need-cast-t15-2
 cast-t15-2 c = search needs
@@ -116,11 +127,12 @@ same-length-3 c = search needs
 returns-2 : tie.Need-returns-2
 unfolding deliverOutcome imageAfter deliveryOf delivered stateOf
 returns-2 c =
-    let engine = c .before .before .before .before .before .before .before .before .before in
+    let clock = c .before .before .before in
+    let engine = clock .before .before .before .before .before .before in
     let d = done engine in
     rw (
-      success (c .before .before .before .before .before .before .before .before .before .before .before .before .before .before .before .before),
-      c .before .before .before .put-clock .ensures,
+      success (engine .before .before .before .before .before .before .before),
+      clock .put-clock .ensures,
       d .node,
       credited engine,
       d .records,

@@ -1,24 +1,31 @@
--- `image::has_fixed_header` meets its contract: each test that fails makes one part of the fixed header false, and past them the last part decides.
+-- `image::has_fixed_header` meets its contract: each test that fails makes one part of the fixed header false, and past them the last
+-- part decides.
 -- Assumes nothing.
 use borrow.Author.Needs.{needs}
 use mathlib.Core.Path.{_≡_}
 use mathlib.Core.Bool.{_&&_}
 use mathlib.Core.List.{List}
-use Prim.Native.Nat.{ℕ, _+_, _*_}
+use Prim.Native.Nat.{ℕ}
 use native.Mathlib.Omega.{arith}
 use denote.Ref.{now}
 use lib.ListN.{getD}
 use lib.Dec.{eqb}
 use borrow.Author.Tests.{eq-eqb, ne-eqb}
 use Rattle.fields.specs.Field.{field}
-use Rattle.node.specs.Image.{layout, fixedHeader}
+use Rattle.node.specs.Image.{layout, headerSize, imageSize, fixedHeader}
 use Rattle.node.proofs.image.has_fixed_header.Statement.{statement}
 use Rattle.node.proofs.image.has_fixed_header.Tie as tie
 
 -- past byte 3, the offset and the size only the zeros are left
-zeros : (b : List ℕ) → getD b 3 0 ≡ 0 → field 2 b 16 ≡ 32 → field 2 b 18 ≡ 32 + getD b 0 0 * 28 → fixedHeader layout b ≡ (eqb (field 4 b 20) 0 && (eqb (field 4 b 24) 0 && eqb (field 4 b 28) 0))
+zeros :
+    (b : List ℕ)
+    → getD b 3 0 ≡ 0
+    → field 2 b 16 ≡ headerSize
+    → field 2 b 18 ≡ imageSize layout (getD b 0 0)
+    → fixedHeader layout b ≡ (eqb (field 4 b 20) 0 && (eqb (field 4 b 24) 0 && eqb (field 4 b 28) 0))
 unfolding fixedHeader
-zeros b p q r = rw (eq-eqb (getD b 3 0) 0 p, eq-eqb (field 2 b 16) 32 q, eq-eqb (field 2 b 18) (32 + getD b 0 0 * 28) r)
+zeros b p q r =
+    rw (eq-eqb (getD b 3 0) 0 p, eq-eqb (field 2 b 16) headerSize q, eq-eqb (field 2 b 18) (imageSize layout (getD b 0 0)) r)
 
 shared-slice-read-size : tie.Need-shared-slice-read-size
 shared-slice-read-size c = search needs
@@ -48,7 +55,7 @@ returns-2 : tie.Need-returns-2
 unfolding fixedHeader
 returns-2 c =
     let b = now (c .before .before .before .before .before .before .args .b) in
-    rw (eq-eqb (getD b 3 0) 0 (omega arith), ne-eqb (field 2 b 16) 32 (omega arith))
+    rw (eq-eqb (getD b 3 0) 0 (omega arith), ne-eqb (field 2 b 16) headerSize (omega arith))
 
 half-requires-2 : tie.Need-half-requires-2
 half-requires-2 c κs = search needs
@@ -57,7 +64,11 @@ returns-3 : tie.Need-returns-3
 unfolding fixedHeader
 returns-3 c =
     let b = now (c .before .before .before .before .before .before .before .before .args .b) in
-    rw (eq-eqb (getD b 3 0) 0 (omega arith), eq-eqb (field 2 b 16) 32 (omega arith), ne-eqb (field 2 b 18) (32 + getD b 0 0 * 28) (omega arith))
+    rw (
+      eq-eqb (getD b 3 0) 0 (omega arith),
+      eq-eqb (field 2 b 16) headerSize (omega arith),
+      ne-eqb (field 2 b 18) (imageSize layout (getD b 0 0)) (omega arith),
+    )
 
 word-requires : tie.Need-word-requires
 word-requires c κs = search needs
@@ -81,7 +92,12 @@ word-requires-3 c κs = search needs
 returns-6 : tie.Need-returns-6
 returns-6 c =
     let b = now (c .before .before .before .before .before .before .before .before .before .before .before .before .before .args .b) in
-    rw (zeros b (omega arith) (omega arith) (omega arith), eq-eqb (field 4 b 20) 0 (omega arith), eq-eqb (field 4 b 24) 0 (omega arith), c .word3 .ensures)
+    rw (
+      zeros b (omega arith) (omega arith) (omega arith),
+      eq-eqb (field 4 b 20) 0 (omega arith),
+      eq-eqb (field 4 b 24) 0 (omega arith),
+      c .word3 .ensures,
+    )
 
 pub has-fixed-header-spec : {M : Type 1} → statement M
 has-fixed-header-spec =

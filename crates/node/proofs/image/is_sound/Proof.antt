@@ -8,7 +8,6 @@ use denote.Ref.{now}
 use lib.ListN.{length}
 use borrow.Author.Tests.{lt-ltb, le-ltb, not-true, not-false}
 use Rattle.fields.specs.Field.{field}
-use Rattle.evidence.specs.Rows.{rowsAt}
 use Rattle.rules.specs.Describe.{window, lastTick}
 use Rattle.node.specs.Image.{layout, headerSize, nodeOf, stateOf, stateWith, fixedHeader, soundState, soundImage}
 use Rattle.rules.specs.declared.node.Node.{Node}

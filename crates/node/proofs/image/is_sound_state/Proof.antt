@@ -1,9 +1,11 @@
--- `image::is_sound_state` meets its contract: each test that fails makes one part of a sound state false, and past them the last part decides.
+-- `image::is_sound_state` meets its contract: each test that fails makes one part of a sound state false, and past them the last part
+-- decides.
 -- Assumes nothing.
 use borrow.Author.Needs.{needs}
 use mathlib.Core.Path.{_≡_, ap, _∙_}
 use mathlib.Core.Bool.{_&&_}
-use mathlib.Core.List.{map}
+use mathlib.Core.List.{List}
+use Prim.Native.Nat.{ℕ, _≤_}
 use native.Mathlib.Omega.{arith}
 use denote.Ref.{now}
 use borrow.Author.Tests.{le-leb, lt-leb, not-true, not-false}
@@ -11,14 +13,32 @@ use lib.Dec.{leb}
 use Rattle.forms.specs.Number.{verdictOf}
 use Rattle.forms.specs.Roster.{rosterNumber}
 use Rattle.forms.proofs.Told.{refusal}
+use Rattle.sets.specs.Sets.{maskBytes}
 use Rattle.evidence.specs.Rows.{Row, rowsAt, properRows}
+use Rattle.evidence.specs.Serials.{serialsIn}
 use Rattle.evidence.proofs.Layouts.{serials-of-rows}
 use Rattle.rules.specs.Describe.{window, lastTick}
-use Rattle.node.specs.Image.{soundState}
+use Rattle.node.specs.Image.{layout, headerSize, stateWith, soundState}
 use Rattle.rules.specs.Rules.{firstRule, atRest}
+use Rattle.rules.specs.declared.node.Node.{Node}
 use Rattle.node.proofs.Sound.{rows-limits}
 use Rattle.node.proofs.image.is_sound_state.Statement.{statement}
 use Rattle.node.proofs.image.is_sound_state.Tie as tie
+
+-- the rows that the bytes hold for a node
+abbrev held : Node → List ℕ → List Row
+held p b = rowsAt maskBytes (p .lines) b headerSize
+
+-- past the tests of the roster, mode and last echo
+ticks :
+    (p : Node) (b : List ℕ)
+    → rosterNumber (p .faults) (p .own) (serialsIn (held p b)) ≡ 0
+    → p .mode ≤ 1
+    → p .sent ≤ p .tick
+    → soundState window lastTick (stateWith layout p b)
+    ≡ (leb (p .tick) lastTick && (properRows window lastTick (held p b) && atRest (firstRule window lastTick (held p b) p)))
+unfolding soundState
+ticks p b roster mode sent = rw (roster, le-leb (p .mode) 1 mode, le-leb (p .sent) (p .tick) sent)
 
 cast-n : tie.Need-cast-n
 cast-n c = search needs
@@ -32,10 +52,10 @@ enum-told c = search needs
 -- the roster's number is the verdict's
 judged : (c : tie.After-judge) →
     let a = c .before .before .before .args in
-    rosterNumber (a .node .faults) (a .node .own) (map (λ (row : Row). row .serial) (rowsAt 8 (a .node .lines) (now (a .b)) 32)) ≡ verdictOf (c .judge .result)
+    rosterNumber (a .node .faults) (a .node .own) (serialsIn (held (a .node) (now (a .b)))) ≡ verdictOf (c .judge .result)
 judged c =
     let a = c .before .before .before .args in
-    rw (serials-of-rows 8 (a .node .lines) (now (a .b)) 32, ← c .judge .ensures)
+    rw (serials-of-rows maskBytes (a .node .lines) (now (a .b)) headerSize, ← c .judge .ensures)
 
 returns : tie.Need-returns
 unfolding soundState
@@ -47,7 +67,7 @@ enum-told-2 c = search needs
 -- past the refusal the roster is in order
 roster : (c : tie.After-enum-told2) →
     let a = c .before .before .before .before .before .args in
-    rosterNumber (a .node .faults) (a .node .own) (map (λ (row : Row). row .serial) (rowsAt 8 (a .node .lines) (now (a .b)) 32)) ≡ 0
+    rosterNumber (a .node .faults) (a .node .own) (serialsIn (held (a .node) (now (a .b)))) ≡ 0
 roster c = judged (c .before .before) ∙ ap verdictOf (c .enum-told2 .given .1)
 
 returns-2 : tie.Need-returns-2
@@ -59,39 +79,47 @@ returns-2 c =
 returns-3 : tie.Need-returns-3
 unfolding soundState
 returns-3 c =
-    let a = c .before .before .before .before .before .before .before .before .before .args in
-    rw (roster (c .before .before .before .before), le-leb (a .node .mode) 1 (omega arith), lt-leb (a .node .sent) (a .node .tick) (omega arith))
-
--- past the tests of mode and last echo
-ticks : (c : tie.Else2) →
-    let a = c .before .before .before .before .before .before .before .before .before .args in
-    let held = rowsAt 8 (a .node .lines) (now (a .b)) 32 in
-    soundState window lastTick (record { node = a .node; rows = held }) ≡ (leb (a .node .tick) lastTick && (properRows window lastTick held && atRest (firstRule window lastTick held (a .node))))
-unfolding soundState
-ticks c =
-    let a = c .before .before .before .before .before .before .before .before .before .args in
-    rw (roster (c .before .before .before .before), le-leb (a .node .mode) 1 (omega arith), le-leb (a .node .sent) (a .node .tick) (omega arith))
+    let told = c .before .before .before .before in
+    let p = told .before .before .before .before .before .args .node in
+    rw (roster told, le-leb (p .mode) 1 (omega arith), lt-leb (p .sent) (p .tick) (omega arith))
 
 returns-4 : tie.Need-returns-4
-returns-4 c = rw (ticks (c .before .before), lt-leb (c .before .before .before .before .before .before .before .before .before .before .before .args .node .tick) lastTick (omega arith))
+returns-4 c =
+    let told = c .before .before .before .before .before .before in
+    let a = told .before .before .before .before .before .args in
+    rw (
+      ticks (a .node) (now (a .b)) (roster told) (omega arith) (omega arith),
+      lt-leb (a .node .tick) lastTick (omega arith),
+    )
 
 -- past the tests of the node only the rows and the rules are left
 rows : (c : tie.Else3) →
     let a = c .before .before .before .before .before .before .before .before .before .before .before .args in
-    let held = rowsAt 8 (a .node .lines) (now (a .b)) 32 in
-    soundState window lastTick (record { node = a .node; rows = held }) ≡ (properRows window lastTick held && atRest (firstRule window lastTick held (a .node)))
-rows c = rw (ticks (c .before .before), le-leb (c .before .before .before .before .before .before .before .before .before .before .before .args .node .tick) lastTick (omega arith))
+    let rows = held (a .node) (now (a .b)) in
+    soundState window lastTick (stateWith layout (a .node) (now (a .b)))
+    ≡ (properRows window lastTick rows && atRest (firstRule window lastTick rows (a .node)))
+rows c =
+    let told = c .before .before .before .before .before .before in
+    let a = told .before .before .before .before .before .args in
+    rw (
+      ticks (a .node) (now (a .b)) (roster told) (omega arith) (omega arith),
+      le-leb (a .node .tick) lastTick (omega arith),
+    )
 
 are-proper-requires : tie.Need-are-proper-requires
 are-proper-requires c κs = search needs
 
 returns-5 : tie.Need-returns-5
-returns-5 c = rw (rows (c .before .before), ← c .before .are-proper .ensures, not-true (c .before .are-proper .result) (c .if4 .taken))
+returns-5 c =
+    rw (rows (c .before .before), ← c .before .are-proper .ensures, not-true (c .before .are-proper .result) (c .if4 .taken))
 
 rule-requires : tie.Need-rule-requires
 rule-requires c κs =
-    let a = c .before .before .before .before .before .before .before .before .before .before .before .before .before .args in
-    record { inside = c .before .before .before .before .before .before .before .before .before .before .before .before .before .pre; fewer = omega (arith, rows-limits (a .node .faults) (a .node .own) 8 (a .node .lines) (now (a .b)) 32 (roster (c .before .before .before .before .before .before .before .before))) }
+    let told = c .before .before .before .before .before .before .before .before in
+    let start = told .before .before .before .before .before in
+    let p = start .args .node in
+    let limits = rows-limits (p .faults) (p .own) maskBytes (p .lines) (now (start .args .b)) headerSize (roster told) in
+    record { inside = start .pre; fewer = omega arith }
 
 is-at-rest-requires : tie.Need-is-at-rest-requires
 is-at-rest-requires c κs = search needs

@@ -9,32 +9,45 @@ use denote.Ref.{now}
 use lib.ListN.{length}
 use Rattle.fields.specs.Field.{field, putField, words}
 use Rattle.fields.proofs.Words.{words-step, words-end}
+use Rattle.forms.specs.Form.{serialsPlace}
+use Rattle.sets.specs.Sets.{maskBytes}
 use Rattle.sets.specs.Ticks.{empty}
-use Rattle.evidence.specs.Rows.{putSet, putRow, putRows}
+use Rattle.evidence.specs.Rows.{rowBytes, echoPlace, initPlace, putSet, putRow, putRows}
 use Rattle.rules.specs.Describe.{freshRows}
+use Rattle.node.specs.Image.{headerSize}
 use Rattle.node.proofs.image.put_fresh_rows.Statement.{statement}
 use Rattle.node.proofs.image.put_fresh_rows.Tie as tie
 
 -- the rows from line k on, in their places
 abbrev rest : List ℕ → List ℕ → ℕ → ℕ → List ℕ
-rest b form n k = putRows 8 b (32 + k * 28) (freshRows (words (n - k) 4 form (8 + k * 4)))
+rest b form n k =
+    putRows maskBytes b (headerSize + k * rowBytes) (freshRows (words (n - k) 4 form (serialsPlace + k * 4)))
+
+-- the row on line k stored: its serial, and two empty sets
+abbrev stored : List ℕ → List ℕ → ℕ → List ℕ
+stored b form k =
+    let at = headerSize + k * rowBytes in
+    let named = putField 4 b at (field 4 form (serialsPlace + k * 4)) in
+    putSet maskBytes (putSet maskBytes named (at + echoPlace) empty) (at + initPlace maskBytes) empty
 
 -- one turn: with the row on line k stored, the lines behind it are what is left to store
-store-step : (b form : List ℕ) (n k : ℕ) → k < n → rest (putSet 8 (putSet 8 (putField 4 b (32 + k * 28) (field 4 form (8 + k * 4))) (32 + k * 28 + 4) empty) (32 + k * 28 + 16) empty) form n (k + 1) ≡ rest b form n k
+store-step : (b form : List ℕ) (n k : ℕ) → k < n → rest (stored b form k) form n (k + 1) ≡ rest b form n k
 unfolding putRow putRows freshRows
 store-step b form n k p =
-    let at : 32 + (k + 1) * 28 ≡ 32 + k * 28 + 28 = omega arith in
+    let at : headerSize + (k + 1) * rowBytes ≡ headerSize + k * rowBytes + rowBytes = omega arith in
     let left : n - (k + 1) ≡ n - k - 1 = omega arith in
-    let line : 8 + (k + 1) * 4 ≡ 8 + k * 4 + 4 = omega arith in
-    rw (words-step (n - k) 4 form (8 + k * 4) (omega arith), at, left, line)
+    let line : serialsPlace + (k + 1) * 4 ≡ serialsPlace + k * 4 + 4 = omega arith in
+    rw (words-step (n - k) 4 form (serialsPlace + k * 4) (omega arith), at, left, line)
 
 -- past the last line nothing is left to store
 store-end : (b form : List ℕ) (n k : ℕ) → n ≤ k → rest b form n k ≡ b
 unfolding putRows freshRows
-store-end b form n k p = rw (words-end (n - k) 4 form (8 + k * 4) (omega arith))
+store-end b form n k p = rw (words-end (n - k) 4 form (serialsPlace + k * 4) (omega arith))
 
 abbrev Inv-loop : tie.InvT-loop
-Inv-loop b₀ form n k₀ b k = (length b ≡ length b₀) × (k ≤ n) × (rest b form n k ≡ putRows 8 b₀ 32 (freshRows (words n 4 form 8)))
+Inv-loop b₀ form n k₀ b k =
+    (length b ≡ length b₀) × (k ≤ n)
+    × (rest b form n k ≡ putRows maskBytes b₀ headerSize (freshRows (words n 4 form serialsPlace)))
 
 abbrev μ-loop : tie.MeasureT-loop
 μ-loop b₀ form n k₀ b k = n - k
@@ -86,19 +99,23 @@ loop-less c = omega arith
 
 loop-again : tie.Need-loop-again Inv-loop μ-loop
 loop-again c =
-    let a = c .before .before .before .before .before .before .before .before .before .before .before .before .before .before .before .before .before .before .before .args in
-    let l = c .before .before .before .before .before .before .before .before .before .before .before .before .before .before .before .before .loop in (
+    let init = c .before .before in
+    let echo = init .before .before .before .before .before in
+    let serial = echo .before .before .before .before .before in
+    let turn = serial .before .before .before in
+    let l = turn .before .loop in
+    let a = turn .before .before .before .before .args in (
       omega arith,
       omega arith,
       rw (
-        c .before .before .store-set2 .ensures,
-        c .before .before .before .none2 .ensures,
-        c .before .before .before .before .before .before .before .store-set .ensures,
-        c .before .before .before .before .before .before .before .before .none .ensures,
-        c .before .before .before .before .before .before .before .before .before .before .before .before .put-word .ensures,
-        c .before .before .before .before .before .before .before .before .before .before .before .before .before .word .ensures,
+        init .store-set2 .ensures,
+        init .before .none2 .ensures,
+        echo .store-set .ensures,
+        echo .before .none .ensures,
+        serial .put-word .ensures,
+        serial .before .word .ensures,
       )
-          (store-step (l .b) (now (a .form)) (a .n) (l .k) (c .before .before .before .before .before .before .before .before .before .before .before .before .before .before .before .loop-test .taken) ∙ l .inv .2),
+          (store-step (l .b) (now (a .form)) (a .n) (l .k) (turn .loop-test .taken) ∙ l .inv .2),
     )
 
 same-length : tie.Need-same-length Inv-loop μ-loop

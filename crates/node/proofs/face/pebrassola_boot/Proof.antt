@@ -120,7 +120,8 @@ same-length-2 c = search needs
 -- what is sent is echo 0 to all
 sent : (c : tie.After-put-record) →
     let known = c .before .before .before .before .before .before .before .before .before .before .before .before .before in
-    c .put-record .last .0 ≡ putRecords (now (known .before .before .before .before .before .before .before .before .args .out)) 0 bootRecords
+    let a = known .before .before .before .before .before .before .before .before .args in
+    c .put-record .last .0 ≡ putRecords (now (a .out)) 0 bootRecords
 unfolding putRecords
 sent c = c .put-record .ensures
 

@@ -9,12 +9,9 @@ use lib.ListN.{length, getD}
 use borrow.Author.Tests.{ne-eqb}
 use Rattle.fields.specs.Field.{field}
 use Rattle.forms.specs.Frame.{frameSize}
-use Rattle.sets.specs.Sets.{maskBytes}
-use Rattle.evidence.specs.Rows.{putRows, credit}
 use Rattle.node.specs.Calls.{deliverNumber, deliveryOf, imageAfter, deliverOutcome}
-use Rattle.rules.specs.Delivery.{delivered}
 use Rattle.rules.specs.Describe.{window, lastTick}
-use Rattle.node.specs.Image.{layout, headerSize, nodeOf, rowsOf, stateOf}
+use Rattle.node.specs.Image.{layout, headerSize, nodeOf, stateOf}
 use Rattle.rules.specs.Steps.{DeliveredAs}
 use Rattle.rules.proofs.Modes.{InMode, mode-kept, delivered-keeps}
 use Rattle.node.proofs.Sound.{SoundBytes, sound-bytes, sound-rows, sound-once}
@@ -67,7 +64,7 @@ word-requires c κs = omega (arith, whole (c .before))
 read-node-requires : tie.Need-read-node-requires
 read-node-requires c κs = sound (c .before .before .before) .header
 
--- a sound image has no serial twice, whichever port is meant; that it is the call's shows in `credited`
+-- a sound image has no serial twice, whichever port is meant; that it is the call's shows in `done`
 deliver-requires : tie.Need-deliver-requires
 unfolding nodeOf
 deliver-requires c κs =
@@ -80,16 +77,6 @@ deliver-requires c κs =
       once = sound-once lastTick image (sound passed) _;
     })
 
--- the frame is credited to the port's row
-credited : (c : tie.After-deliver) →
-    let a = start (c .before .before .before .before .before .before .before) .args in
-    let frame = now (a .frame) in
-    let rows = credit window (a .port) (getD frame 0 0) (field 4 frame 4) (rowsOf layout (now (a .image))) in
-    c .deliver .last .1 .0 ≡ putRows maskBytes (now (a .image)) headerSize rows
-unfolding delivered nodeOf
-credited c =
-    rw (c .before .before .before .read-node .ensures, c .before .before .before .before .before .word .ensures) at (c .deliver .ensures .rows)
-
 -- what the engine promises is the delivery of the definition
 done : (c : tie.After-deliver) →
     let a = start (c .before .before .before .before .before .before .before) .args in
@@ -97,7 +84,9 @@ done : (c : tie.After-deliver) →
     let last = c .deliver .last .1 in
     DeliveredAs d (now (a .image)) headerSize (now (a .out)) (c .deliver .result) (last .0) (last .1 .1 .1 .1 .0)
 unfolding deliveryOf stateOf nodeOf
-done c = rw (c .before .before .before .read-node .ensures, c .before .before .before .before .before .word .ensures) at (c .deliver .ensures)
+done c =
+    let node = c .before .before .before in
+    rw (node .read-node .ensures, node .before .before .word .ensures) at (c .deliver .ensures)
 
 -- the mode is still 0 or 1
 mode : (c : tie.After-deliver) → InMode (c .deliver .result .node)
@@ -125,7 +114,7 @@ same-length-3 : tie.Need-same-length-3
 same-length-3 c = search needs
 
 returns-2 : tie.Need-returns-2
-unfolding deliverOutcome imageAfter deliveryOf delivered stateOf
+unfolding deliverOutcome imageAfter
 returns-2 c =
     let clock = c .before .before .before in
     let engine = clock .before .before .before .before .before .before in
@@ -134,7 +123,7 @@ returns-2 c =
       success (engine .before .before .before .before .before .before .before),
       clock .put-clock .ensures,
       d .node,
-      credited engine,
+      d .rows,
       d .records,
       d .bytes,
     )

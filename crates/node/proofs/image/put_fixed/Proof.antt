@@ -22,16 +22,18 @@ half-length : (c : tie.After-put-half) → length (c .put-half .last .0) ≡ len
 half-length c = simp length-set at (c .put-half .kept .0)
 
 half2-length : (c : tie.After-put-half2) →
-    length (c .put-half2 .last .0) ≡ length (now (c .before .before .before .before .before .before .before .args .b))
+    let half = c .before .before .before .before in
+    length (c .put-half2 .last .0) ≡ length (now (half .before .before .before .args .b))
 half2-length c = omega (arith, c .put-half2 .kept .0, half-length (c .before .before .before .before))
 
 word-length : (c : tie.After-put-word) →
-    length (c .put-word .last .0) ≡ length (now (c .before .before .before .before .before .before .before .before .before .before .before .args .b))
+    let half = c .before .before .before .before .before .before .before .before in
+    length (c .put-word .last .0) ≡ length (now (half .before .before .before .args .b))
 word-length c = omega (arith, c .put-word .kept .0, half2-length (c .before .before .before .before))
 
 word2-length : (c : tie.After-put-word2) →
-    let word = c .before .before .before .before in
-    length (c .put-word2 .last .0) ≡ length (now (word .before .before .before .before .before .before .before .before .before .before .before .args .b))
+    let half = c .before .before .before .before .before .before .before .before .before .before .before .before in
+    length (c .put-word2 .last .0) ≡ length (now (half .before .before .before .args .b))
 word2-length c = omega (arith, c .put-word2 .kept .0, word-length (c .before .before .before .before))
 
 mul-put-half : tie.Need-mul-put-half

@@ -30,8 +30,11 @@ put-word-requires c κs = simp length-set (omega arith)
 
 -- no store changes the length
 word-length : (c : tie.After-put-word) →
-    length (c .put-word .last .0) ≡ length (now (c .before .before .before .before .before .before .before .before .before .args .b))
-word-length c = omega (arith, simp length-set at (c .put-word .kept .0), c .before .before .before .before .before .before .put-fixed .kept .0)
+    let put = c .before .before .before .before .before .before in
+    length (c .put-word .last .0) ≡ length (now (put .before .before .before .args .b))
+word-length c =
+    let put = c .before .before .before .before .before .before in
+    omega (arith, simp length-set at (c .put-word .kept .0), put .put-fixed .kept .0)
 
 put-clock-requires : tie.Need-put-clock-requires
 put-clock-requires c κs = omega (arith, word-length (c .before .before .before))

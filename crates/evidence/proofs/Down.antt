@@ -1,15 +1,11 @@
--- Laws of the search for the greatest tick: one step of it, and its range.
+-- Laws of the search for the greatest tick: one step of it.
 -- Assumes nothing.
-use mathlib.Core.Path.{_≡_, refl, sym, ap, _∙_, subst}
-use mathlib.Core.Logic.{_⊎_, inl, inr}
+use mathlib.Core.Path.{_≡_, refl, ap, _∙_}
 use mathlib.Core.Bool.{Bool, true, false}
-use mathlib.Core.List.{List, [], _∷_}
-use Prim.Native.Nat.{ℕ, zero, suc, _+_, _-_, _≤_, _<_, max}
-use native.Mathlib.Decide.{decLe}
+use Prim.Native.Nat.{ℕ, zero, suc, _-_, _≤_, _<_}
 use native.Mathlib.Omega.{arith}
 use borrow.Author.Tests.{le-leb, lt-leb}
-use Rattle.evidence.specs.Rows.{Row, setOf}
-use Rattle.evidence.specs.Holders.{firstDown, bestOf, bestAmong}
+use Rattle.evidence.specs.Holders.{firstDown}
 
 module _ (passes : ℕ → Bool) where
   down-none : (low x : ℕ) → firstDown passes low 0 x ≡ 0
@@ -40,29 +36,3 @@ module _ (passes : ℕ → Bool) where
     where
       less : (n : ℕ) → n ≡ suc n - 1
       less n = omega arith
-
-  -- what is found is above low
-  down-above : (low c x : ℕ) → (firstDown passes low c x ≡ 0) ⊎ (low < firstDown passes low c x)
-  down-above low zero x = inl (down-none low x)
-  down-above low (suc c) x = go (decLe x low) (passes (x - 1)) refl (down-above low c (x - 1))
-    where
-      go :
-          Dec (x ≤ low) → (b : Bool) → passes (x - 1) ≡ b →
-          (firstDown passes low c (x - 1) ≡ 0) ⊎ (low < firstDown passes low c (x - 1)) →
-          (firstDown passes low (suc c) x ≡ 0) ⊎ (low < firstDown passes low (suc c) x)
-      go (yes p) b e h = inl (down-end low (suc c) x p)
-      go (no p) true e h = inr (subst (λ (y : ℕ). low < y) (sym (down-hit low (suc c) x (omega arith) (omega arith) e)) (omega arith))
-      go (no p) false e h = subst (λ (y : ℕ). (y ≡ 0) ⊎ (low < y)) (sym (down-suc low c x (omega arith) e)) h
-
--- ---- over rows
-
-module _ (w kind m : ℕ) (all : List Row) where
-  pub among-above : (low : ℕ) (rows : List Row) → (bestAmong w kind m low all rows ≡ 0) ⊎ (low < bestAmong w kind m low all rows)
-  unfolding bestAmong bestOf
-  among-above low [] = inl refl
-  among-above low (row ∷ rows) = go (down-above _ low w (setOf kind row .top + 1)) (among-above low rows)
-    where
-      go : {a b : ℕ} → (a ≡ 0) ⊎ (low < a) → (b ≡ 0) ⊎ (low < b) → (max a b ≡ 0) ⊎ (low < max a b)
-      go (inl e) (inl f) = inl (omega arith)
-      go (inl e) (inr q) = inr (omega arith)
-      go (inr p) f = inr (omega arith)

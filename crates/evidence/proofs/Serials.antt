@@ -74,7 +74,12 @@ module _ (w kind t : ℕ) where
   behind : {row : Row} {rows : List Row} {serial : ℕ} (h : Holder w kind t (row ∷ rows) serial) →
       (h .row ≡ row → ⊥) → Holder w kind t rows serial
   behind h ne =
-      record { row = h .row; listed = ⊎-elim (λ e. absurd (ne e)) (λ m. m) (List·Memᴰ·cases-cons (h .listed)); its = h .its; held = h .held }
+      record {
+        row = h .row;
+        listed = ⊎-elim (λ e. absurd (ne e)) (λ m. m) (List·Memᴰ·cases-cons (h .listed));
+        its = h .its;
+        held = h .held;
+      }
 
   -- a serial that holds something stands in the roster
   in-roster : {rows : List Row} {serial : ℕ} → Holder w kind t rows serial → List·Memᴰ serial (serialsIn rows)
@@ -140,6 +145,7 @@ pub held-by-says : (w kind t m : ℕ) (rows : List Row) →
     (Twice (serialsIn rows) → ⊥) →
     (m ≤ holders w kind t rows) ↔ HeldBy w kind t m rows
 held-by-says w kind t m rows once = (
-  λ p. let h = all-holders w kind t rows once in record { serials = h .serials; many = omega arith; distinct = h .distinct; each = h .each },
+  λ p. let h = all-holders w kind t rows once in
+      record { serials = h .serials; many = omega arith; distinct = h .distinct; each = h .each },
   λ h. omega (arith, h .many, no-more w kind t rows (h .serials) (h .distinct) (h .each)),
 )

@@ -36,7 +36,10 @@ module _ (w kind j asked : ℕ) (known : Known kind) (wanted : Known asked) wher
   hears k a row (inr p) (inl q) = rw (p, q)
   hears k a row (inr p) (inr q) = rw (p, q)
 
-  row-hears : (serial : ℕ) (row : Row) → eqb (row .serial) serial ≡ true → setOf asked (creditOf w serial kind j row) ≡ hear w asked (setOf asked row) frame
+  row-hears :
+      (serial : ℕ) (row : Row)
+      → eqb (row .serial) serial ≡ true
+      → setOf asked (creditOf w serial kind j row) ≡ hear w asked (setOf asked row) frame
   unfolding creditOf
   row-hears serial row e = rw e (hears kind asked row known wanted)
 
@@ -46,18 +49,20 @@ module _ (w kind j asked : ℕ) (known : Known kind) (wanted : Known asked) wher
 
   -- ---- all rows
 
-  pub under-own :
-      (serial : ℕ) (rows : List Row)
-      → (count serial (serialsIn rows) ≡ 0 → ⊥)
-      → heldUnder (credit w serial kind j rows) serial asked ≡ hear w asked (heldUnder rows serial asked) frame
+  -- a frame credited to a serial is heard under it
+  abbrev OwnHeard : ℕ → List Row → Type 0
+  OwnHeard serial rows = heldUnder (credit w serial kind j rows) serial asked ≡ hear w asked (heldUnder rows serial asked) frame
+
+  pub under-own : (serial : ℕ) (rows : List Row) → (count serial (serialsIn rows) ≡ 0 → ⊥) → OwnHeard serial rows
   unfolding heldUnder credit count creditOf
   under-own serial [] listed = absurd (listed refl)
-  under-own serial (row ∷ rows) listed = rw (serial-credited w serial kind j row) (go (eqb (row .serial) serial) refl (under-own serial rows) listed)
+  under-own serial (row ∷ rows) listed =
+      rw (serial-credited w serial kind j row) (go (eqb (row .serial) serial) refl (under-own serial rows) listed)
     where
       go :
           (t : Bool)
           → eqb (row .serial) serial ≡ t
-          → ((count serial (serialsIn rows) ≡ 0 → ⊥) → heldUnder (credit w serial kind j rows) serial asked ≡ hear w asked (heldUnder rows serial asked) frame)
+          → ((count serial (serialsIn rows) ≡ 0 → ⊥) → OwnHeard serial rows)
           → (cond t 1 0 + count serial (serialsIn rows) ≡ 0 → ⊥)
           → cond t (setOf asked (creditOf w serial kind j row)) (heldUnder (credit w serial kind j rows) serial asked)
           ≡ hear w asked (cond t (setOf asked row) (heldUnder rows serial asked)) frame
@@ -71,7 +76,8 @@ module _ (w kind j asked : ℕ) (known : Known kind) (wanted : Known asked) wher
   unfolding heldUnder credit creditOf
   under-other port serial [] apart = refl
   under-other port serial (row ∷ rows) apart =
-      rw (serial-credited w port kind j row) (go (eqb (row .serial) port) refl (eqb (row .serial) serial) refl (under-other port serial rows apart))
+      rw (serial-credited w port kind j row)
+      (go (eqb (row .serial) port) refl (eqb (row .serial) serial) refl (under-other port serial rows apart))
     where
       go :
           (t : Bool)

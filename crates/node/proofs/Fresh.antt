@@ -4,13 +4,15 @@ use mathlib.Core.Path.{_≡_, refl, ap, ap₂, _∙_}
 use mathlib.Core.Logic.{inl}
 use mathlib.Core.Bool.{Bool, true, false, cond}
 use mathlib.Core.List.{List, [], _∷_}
-use Prim.Native.Nat.{ℕ, suc, _+_, _-_, _<_}
+use Prim.Native.Nat.{ℕ, _+_, _-_, _<_}
 use native.Mathlib.Omega.{arith}
 use borrow.Author.Tests.{lt-leb}
-use lib.ListN.{length}
+use lib.ListN.{length, length-map}
 use lib.Dec.{eqb}
 use lib.Pow.{pow-pos}
 use Rattle.fields.specs.Kind.{INIT, ECHO}
+use Rattle.fields.proofs.Words.{length-words}
+use Rattle.forms.specs.Form.{linesOf, serialsPlace, serialsOf}
 use Rattle.forms.specs.Roster.{rosterNumber}
 use Rattle.sets.specs.Ticks.{empty, holds}
 use Rattle.evidence.specs.Rows.{setOf}
@@ -23,6 +25,7 @@ use Rattle.rules.specs.Describe.{freshNode, freshRows}
 use Rattle.rules.specs.Rules.{firstRule}
 use Rattle.rules.specs.declared.node.Rule.the-variants.{Rest}
 use Rattle.forms.proofs.Rosters.{roster-limits}
+use Rattle.node.specs.Calls.{freshState}
 use Rattle.node.proofs.Sound.{Sound}
 
 fresh-serials : (serials : List ℕ) → serialsIn (freshRows serials) ≡ serials
@@ -30,10 +33,10 @@ unfolding freshRows
 fresh-serials [] = refl
 fresh-serials (x ∷ xs) = ap (λ (l : List ℕ). x ∷ l) (fresh-serials xs)
 
-pub fresh-length : (serials : List ℕ) → length (freshRows serials) ≡ length serials
-unfolding freshRows
-fresh-length [] = refl
-fresh-length (x ∷ xs) = ap suc (fresh-length xs)
+-- the fresh node of a form has a row for each of its lines
+pub fresh-lines : (form : List ℕ) → length (freshState form .rows) ≡ linesOf form
+unfolding freshState freshRows
+fresh-lines form = length-map (serialsOf form) _ ∙ length-words (linesOf form) 4 form serialsPlace
 
 empty-kept : (w last : ℕ) → Kept w last empty
 empty-kept w last =

@@ -57,10 +57,10 @@ node-stores : (L : Layout) (b : List ℕ) (p : Node) → putNode L b p ≡ putSt
 unfolding putNode putFixed putClock nodeStores clockStores putStores
 node-stores L b p = refl
 
-pub length-putClock : (b : List ℕ) (p : Node) → length (putClock b p) ≡ length b
+length-putClock : (b : List ℕ) (p : Node) → length (putClock b p) ≡ length b
 length-putClock b p = ap length (clock-stores b p) ∙ length-stores b (clockStores p)
 
-pub length-putNode : (L : Layout) (b : List ℕ) (p : Node) → length (putNode L b p) ≡ length b
+length-putNode : (L : Layout) (b : List ℕ) (p : Node) → length (putNode L b p) ≡ length b
 length-putNode L b p = ap length (node-stores L b p) ∙ length-stores b (nodeStores L p)
 
 pub bytes-after : (L : Layout) (b : List ℕ) (d : Delivered) → Bytes b → Bytes (imageAfter L b d)
@@ -85,7 +85,7 @@ getD-putClock-other b p j mode tick sent =
     ∙ getD-put-other 1 _ 2 _ j (λ k q e. mode (omega arith))
 
 -- a byte behind the header
-getD-putClock-after : (b : List ℕ) (p : Node) (j : ℕ) → headerSize ≤ j → getD (putClock b p) j 0 ≡ getD b j 0
+pub getD-putClock-after : (b : List ℕ) (p : Node) (j : ℕ) → headerSize ≤ j → getD (putClock b p) j 0 ≡ getD b j 0
 getD-putClock-after b p j far = getD-putClock-other b p j (λ e. omega arith) (λ h. omega arith) (λ h. omega arith)
 
 pub getD-putNode-after : (L : Layout) (b : List ℕ) (p : Node) (j : ℕ) → headerSize ≤ j → getD (putNode L b p) j 0 ≡ getD b j 0

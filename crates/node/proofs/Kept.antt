@@ -1,28 +1,27 @@
 -- What the calls leave alone, for every outcome, refused ones included: bytes behind the image's size, bytes behind the records, and
 -- of the image itself all but mode, k, last echo and the port's row. Over the layout.
 -- Assumes nothing.
-use mathlib.Core.Path.{_≡_, refl, sym, _∙_, subst}
+use mathlib.Core.Path.{_≡_, refl, _∙_}
 use mathlib.Core.List.{List}
-use Prim.Native.Nat.{ℕ, _+_, _*_, _≤_, _<_}
+use Prim.Native.Nat.{ℕ, _*_, _≤_, _<_}
 use native.Mathlib.Omega.{arith}
 use lib.ListN.{length, getD, length-map}
 use Rattle.fields.specs.Field.{field, Bytes}
-use Rattle.fields.proofs.Words.{length-words}
-use Rattle.forms.specs.Form.{linesOf, serialsOf}
-use Rattle.evidence.specs.Rows.{rowSize, rowsAt, credit}
+use Rattle.forms.specs.Form.{linesOf}
+use Rattle.evidence.specs.Rows.{credit}
 use Rattle.evidence.proofs.Credits.{credit-elsewhere}
-use Rattle.evidence.proofs.Encoded.{length-putRows, getD-putRows-after}
+use Rattle.evidence.proofs.Encoded.{getD-putRows-after}
 use Rattle.evidence.proofs.Layouts.{length-rows}
 use Rattle.rules.specs.Delivery.{delivered}
 use Rattle.rules.specs.Describe.{bootRecords}
 use Rattle.rules.specs.Record.{recordSize}
-use Rattle.rules.proofs.Records.{length-putRecords, getD-putRecords-after}
+use Rattle.rules.proofs.Records.{getD-putRecords-after}
 use Rattle.node.specs.After.{InRow}
-use Rattle.node.specs.Calls.{bootNumber, freshState, booted, deliverNumber, deliveryOf, imageAfter}
+use Rattle.node.specs.Calls.{bootNumber, booted, deliverNumber, deliveryOf, imageAfter}
 use Rattle.node.specs.Calls.{deliverOutcome}
-use Rattle.node.specs.Image.{Layout, headerSize, imageSize, stateOf, putState}
-use Rattle.node.proofs.Fresh.{fresh-length}
-use Rattle.node.proofs.Images.{length-putClock, length-putNode, getD-putClock-other, getD-putNode-after}
+use Rattle.node.specs.Image.{Layout, headerSize, imageSize, rowsOf, stateOf, putState}
+use Rattle.node.proofs.Fresh.{fresh-lines}
+use Rattle.node.proofs.Images.{getD-putClock-other, getD-putClock-after, getD-putNode-after}
 use Rattle.node.proofs.Outcomes.{either-way}
 
 -- ---- boot
@@ -32,21 +31,11 @@ module _ (L : Layout) (form image out : List ℕ) where
   pub boot-behind-image : (i : ℕ) →
       imageSize L (linesOf form) ≤ i →
       getD (booted L form image out .image) i 0 ≡ getD image i 0
-  unfolding booted putState freshState
+  unfolding booted putState
   boot-behind-image i far =
       either-way (bootNumber L form (length image) (length out)) image out _ (λ o. getD (o .image) i 0 ≡ getD image i 0)
-      (getD-putRows-after (L .masks) _ headerSize _ i (subst (λ (n : ℕ). headerSize + n * rowSize (L .masks) ≤ i) (sym lines) far)
-      ∙ getD-putNode-after L image _ i (omega arith))
+      (getD-putRows-after (L .masks) _ headerSize _ i (rw (fresh-lines form) far) ∙ getD-putNode-after L image _ i (omega arith))
       (λ n. refl)
-    where
-      lines : length (freshState form .rows) ≡ linesOf form
-      lines = fresh-length (serialsOf form) ∙ length-words (linesOf form) 4 form 8
-
-  pub boot-image-length : length (booted L form image out .image) ≡ length image
-  unfolding booted putState
-  boot-image-length =
-      either-way (bootNumber L form (length image) (length out)) image out _ (λ o. length (o .image) ≡ length image)
-      (length-putRows (L .masks) _ headerSize _ ∙ length-putNode L image _) (λ n. refl)
 
   -- bytes behind the records stay
   pub boot-behind-records : (i : ℕ) →
@@ -58,18 +47,12 @@ module _ (L : Layout) (form image out : List ℕ) where
       (λ o. recordSize * o .records ≤ i → getD (o .out) i 0 ≡ getD out i 0)
       (λ far. getD-putRecords-after out 0 bootRecords i far) (λ n far. refl)
 
-  pub boot-out-length : length (booted L form image out .out) ≡ length out
-  unfolding booted
-  boot-out-length =
-      either-way (bootNumber L form (length image) (length out)) image out _ (λ o. length (o .out) ≡ length out)
-      (length-putRecords out 0 bootRecords) (λ n. refl)
-
 -- ---- deliver
 
 module _ (L : Layout) (last : ℕ) (image : List ℕ) (port : ℕ) (frame out : List ℕ) where
   rows-many : length (deliveryOf L last image port frame .state .rows) ≡ getD image 0 0
   unfolding deliveryOf delivered stateOf credit
-  rows-many = length-map (rowsAt (L .masks) (getD image 0 0) image headerSize) _ ∙ length-rows (L .masks) (getD image 0 0) image headerSize
+  rows-many = length-map (rowsOf L image) _ ∙ length-rows (L .masks) (getD image 0 0) image headerSize
 
   -- bytes behind the image's size stay
   pub deliver-behind-image : (i : ℕ) →
@@ -78,15 +61,8 @@ module _ (L : Layout) (last : ℕ) (image : List ℕ) (port : ℕ) (frame out : 
   unfolding deliverOutcome imageAfter
   deliver-behind-image i far =
       either-way (deliverNumber L last image port frame (length out)) image out _ (λ o. getD (o .image) i 0 ≡ getD image i 0)
-      (getD-putClock-other _ _ i (λ f. omega arith) (λ h. omega arith) (λ h. omega arith)
-      ∙ getD-putRows-after (L .masks) image headerSize _ i (subst (λ (n : ℕ). headerSize + n * rowSize (L .masks) ≤ i) (sym rows-many) far))
+      (getD-putClock-after _ _ i (omega arith) ∙ getD-putRows-after (L .masks) image headerSize _ i (rw rows-many far))
       (λ n. refl)
-
-  pub deliver-image-length : length (deliverOutcome L last image port frame out .image) ≡ length image
-  unfolding deliverOutcome imageAfter
-  deliver-image-length =
-      either-way (deliverNumber L last image port frame (length out)) image out _ (λ o. length (o .image) ≡ length image)
-      (length-putClock _ _ ∙ length-putRows (L .masks) image headerSize _) (λ n. refl)
 
   -- bytes behind the records stay
   pub deliver-behind-records : (i : ℕ) →
@@ -97,12 +73,6 @@ module _ (L : Layout) (last : ℕ) (image : List ℕ) (port : ℕ) (frame out : 
       either-way (deliverNumber L last image port frame (length out)) image out _
       (λ o. recordSize * o .records ≤ i → getD (o .out) i 0 ≡ getD out i 0)
       (λ far. getD-putRecords-after out 0 (deliveryOf L last image port frame .records) i (omega arith)) (λ n far. refl)
-
-  pub deliver-out-length : length (deliverOutcome L last image port frame out .out) ≡ length out
-  unfolding deliverOutcome
-  deliver-out-length =
-      either-way (deliverNumber L last image port frame (length out)) image out _ (λ o. length (o .out) ≡ length out)
-      (length-putRecords out 0 _) (λ n. refl)
 
   -- no byte of the image changes but mode, k, last echo and the port's row
   pub deliver-only : (i : ℕ) →

@@ -24,7 +24,7 @@ use Rattle.rules.specs.Delivery.{State, Delivered, delivered}
 use Rattle.rules.specs.Describe.{freshRows}
 use Rattle.node.specs.Image.{Layout, layout, headerSize, nodeOf, rowsOf, stateOf, soundImage, putState}
 use Rattle.rules.specs.Clock.{Ordered, Below}
-use Rattle.node.proofs.Fresh.{fresh-length, fresh-sound}
+use Rattle.node.proofs.Fresh.{fresh-lines, fresh-sound}
 use Rattle.node.proofs.Images.{Fine, NodeFits, StateFits, Written, fixed-facts, fixed-test, state-written, delivery-written}
 use Rattle.node.proofs.Sound.{Sound, SoundBytes, sound-bytes, bytes-sound, rows-inside}
 use Rattle.node.proofs.Stays.{sound-after, ordered-after, rest-after, records-few, records-below}
@@ -190,7 +190,7 @@ module _
           sent = lit< tt;
         };
         rows = fresh-fits (L .masks) (serialsOf form) (words-words (linesOf form) 4 form serialsPlace bytes);
-        count = fresh-length (serialsOf form) ∙ lines;
+        count = fresh-lines form;
         room = started .image;
       }
 

@@ -1,4 +1,5 @@
--- Laws of records in bytes: they keep the length and the bytes behind them, and records behind records are one list of records; so what joints send adds up.
+-- Laws of records in bytes: they keep the length and the bytes behind them, and records behind records are one list of records; so
+-- what joints send adds up.
 -- Assumes nothing.
 use mathlib.Core.Path.{_≡_, refl, sym, ap, _∙_}
 use mathlib.Core.List.{List, [], _∷_, _++_}

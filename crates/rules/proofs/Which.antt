@@ -137,7 +137,8 @@ module _ (w last : ℕ) (rows : List Row) (p : Node) (once : Twice (serialsIn ro
   fires-first Echo h = rw (first-rule w last rows p, echo-says .1 h)
   fires-first Tick h = rw (first-rule w last rows p, no-echo (h .0) (h .1), r3-says .1 (h .2))
   fires-first (Jump l) h = rw (first-rule w last rows p, no-echo (h .0) (h .1), fails _ r3-says (h .2), jumps (suc l) (h .3))
-  fires-first (Wake x) h = rw (first-rule w last rows p, no-echo (h .0) (h .1), fails _ r3-says (h .2), jumps 0 (h .3), wakes (suc x) (h .4))
+  fires-first (Wake x) h =
+      rw (first-rule w last rows p, no-echo (h .0) (h .1), fails _ r3-says (h .2), jumps 0 (h .3), wakes (suc x) (h .4))
   fires-first Rest h = rw (first-rule w last rows p, no-echo (h .0) (h .1), fails _ r3-says (h .2), jumps 0 (h .3), wakes 0 (h .4))
 
 -- the first rule is the one that the paper names

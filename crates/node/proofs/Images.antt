@@ -124,6 +124,19 @@ module _ (b : List ℕ) (room : headerSize ≤ length b) (ss : List Store) (k : 
 
 -- ---- the fixed values of a header
 
+-- six tests that all pass, as those of a header and of a state
+pub six-true :
+    {a b c d e f : Bool}
+    → (a && (b && (c && (d && (e && f))))) ≡ true
+    → (a ≡ true) × (b ≡ true) × (c ≡ true) × (d ≡ true) × (e ≡ true) × (f ≡ true)
+six-true t =
+    let u = and-eq-true-iff _ _ .0 t in
+    let v = and-eq-true-iff _ _ .0 (u .1) in
+    let w = and-eq-true-iff _ _ .0 (v .1) in
+    let x = and-eq-true-iff _ _ .0 (w .1) in
+    let y = and-eq-true-iff _ _ .0 (x .1) in
+    (u .0, v .0, w .0, x .0, y .0, y .1)
+
 -- as facts
 pub record Fixed (L : Layout) (b : List ℕ) : Type 0 where
   pub mark : getD b 3 0 ≡ L .mark
@@ -137,18 +150,14 @@ module _ (L : Layout) (b : List ℕ) where
   pub fixed-facts : fixedHeader L b ≡ true → Fixed L b
   unfolding fixedHeader
   fixed-facts e =
-      let mark = and-eq-true-iff _ _ .0 e in
-      let offset = and-eq-true-iff _ _ .0 (mark .1) in
-      let size = and-eq-true-iff _ _ .0 (offset .1) in
-      let one = and-eq-true-iff _ _ .0 (size .1) in
-      let two = and-eq-true-iff _ _ .0 (one .1) in
+      let t = six-true e in
       record {
-        mark = eqb-true _ _ (mark .0);
-        offset = eqb-true _ _ (offset .0);
-        size = eqb-true _ _ (size .0);
-        zero₁ = eqb-true _ _ (one .0);
-        zero₂ = eqb-true _ _ (two .0);
-        zero₃ = eqb-true _ _ (two .1);
+        mark = eqb-true _ _ (t .0);
+        offset = eqb-true _ _ (t .1);
+        size = eqb-true _ _ (t .2);
+        zero₁ = eqb-true _ _ (t .3);
+        zero₂ = eqb-true _ _ (t .4);
+        zero₃ = eqb-true _ _ (t .5);
       }
 
   pub fixed-test : Fixed L b → fixedHeader L b ≡ true

@@ -21,7 +21,7 @@ use Rattle.node.specs.Image.{Layout, layout, headerSize, imageSize, rost
 use Rattle.rules.specs.Rules.{firstRule}
 use Rattle.rules.specs.declared.node.Rule.the-variants.{Rest}
 use Rattle.rules.proofs.Firing.{rest-true}
-use Rattle.node.proofs.Images.{fixed-facts}
+use Rattle.node.proofs.Images.{six-true, fixed-facts}
 use Rattle.rules.specs.Steps.{RowsIn}
 
 -- ---- a sound state and a sound image, as facts
@@ -44,18 +44,14 @@ module _ (w last : ℕ) (s : State) where
   sound-node : soundState w last s ≡ true → Sound w last s
   unfolding soundState
   sound-node e =
-      let roster = and-eq-true-iff _ _ .0 e in
-      let mode = and-eq-true-iff _ _ .0 (roster .1) in
-      let sent = and-eq-true-iff _ _ .0 (mode .1) in
-      let tick = and-eq-true-iff _ _ .0 (sent .1) in
-      let proper = and-eq-true-iff _ _ .0 (tick .1) in
+      let t = six-true e in
       record {
-        roster = eqb-true _ _ (roster .0);
-        mode = leb-true _ _ (mode .0);
-        sent = leb-true _ _ (sent .0);
-        tick = leb-true _ _ (tick .0);
-        sets = all-kept w last (s .rows) (proper .0);
-        rest = rest-true _ (proper .1);
+        roster = eqb-true _ _ (t .0);
+        mode = leb-true _ _ (t .1);
+        sent = leb-true _ _ (t .2);
+        tick = leb-true _ _ (t .3);
+        sets = all-kept w last (s .rows) (t .4);
+        rest = rest-true _ (t .5);
       }
 
   node-sound : Sound w last s → soundState w last s ≡ true

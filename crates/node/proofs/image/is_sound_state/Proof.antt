@@ -29,17 +29,6 @@ use Rattle.node.proofs.image.is_sound_state.Tie as tie
 abbrev held : Node → List ℕ → List Row
 held p b = rowsAt maskBytes (p .lines) b headerSize
 
--- past the tests of the roster, mode and last echo
-ticks :
-    (p : Node) (b : List ℕ)
-    → rosterNumber (p .faults) (p .own) (serialsIn (held p b)) ≡ 0
-    → p .mode ≤ 1
-    → p .sent ≤ p .tick
-    → soundState window lastTick (stateWith layout p b)
-    ≡ (leb (p .tick) lastTick && (properRows window lastTick (held p b) && atRest (firstRule window lastTick (held p b) p)))
-unfolding soundState
-ticks p b roster mode sent = rw (roster, le-leb (p .mode) 1 mode, le-leb (p .sent) (p .tick) sent)
-
 cast-n : tie.Need-cast-n
 cast-n c = search needs
 
@@ -83,14 +72,22 @@ returns-3 c =
     let p = told .before .before .before .before .before .args .node in
     rw (roster told, le-leb (p .mode) 1 (omega arith), lt-leb (p .sent) (p .tick) (omega arith))
 
+-- past the tests of mode and last echo
+ticks : (c : tie.Else2) →
+    let a = c .before .before .before .before .before .before .before .before .before .args in
+    let rows = held (a .node) (now (a .b)) in
+    soundState window lastTick (stateWith layout (a .node) (now (a .b)))
+    ≡ (leb (a .node .tick) lastTick && (properRows window lastTick rows && atRest (firstRule window lastTick rows (a .node))))
+unfolding soundState
+ticks c =
+    let told = c .before .before .before .before in
+    let p = told .before .before .before .before .before .args .node in
+    rw (roster told, le-leb (p .mode) 1 (omega arith), le-leb (p .sent) (p .tick) (omega arith))
+
 returns-4 : tie.Need-returns-4
 returns-4 c =
-    let told = c .before .before .before .before .before .before in
-    let a = told .before .before .before .before .before .args in
-    rw (
-      ticks (a .node) (now (a .b)) (roster told) (omega arith) (omega arith),
-      lt-leb (a .node .tick) lastTick (omega arith),
-    )
+    let p = c .before .before .before .before .before .before .before .before .before .before .before .args .node in
+    rw (ticks (c .before .before), lt-leb (p .tick) lastTick (omega arith))
 
 -- past the tests of the node only the rows and the rules are left
 rows : (c : tie.Else3) →
@@ -99,12 +96,8 @@ rows : (c : tie.Else3) →
     soundState window lastTick (stateWith layout (a .node) (now (a .b)))
     ≡ (properRows window lastTick rows && atRest (firstRule window lastTick rows (a .node)))
 rows c =
-    let told = c .before .before .before .before .before .before in
-    let a = told .before .before .before .before .before .args in
-    rw (
-      ticks (a .node) (now (a .b)) (roster told) (omega arith) (omega arith),
-      le-leb (a .node .tick) lastTick (omega arith),
-    )
+    let p = c .before .before .before .before .before .before .before .before .before .before .before .args .node in
+    rw (ticks (c .before .before), le-leb (p .tick) lastTick (omega arith))
 
 are-proper-requires : tie.Need-are-proper-requires
 are-proper-requires c κs = search needs

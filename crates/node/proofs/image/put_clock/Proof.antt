@@ -32,13 +32,11 @@ same-length c = omega (arith, c .before .before .put-word2 .kept .0, word-length
 returns : tie.Need-returns
 unfolding putClock
 returns c =
-    let sent = c .before .before in
-    let tick = sent .before .before .before .before in
-    let start = tick .before .before .before .before in
+    let a = c .before .before .before .before .before .before .before .before .before .before .args in
     rw (
-      put-byte (now (start .args .b)) 2 (start .args .node .mode) (start .pre .1),
-      sent .put-word2 .ensures,
-      tick .put-word .ensures,
+      put-byte (now (a .b)) 2 (a .node .mode) (c .before .before .before .before .before .before .before .before .before .before .pre .1),
+      c .before .before .put-word2 .ensures,
+      c .before .before .before .before .before .before .put-word .ensures,
     )
 
 pub put-clock-spec : {M : Type 1} → statement M

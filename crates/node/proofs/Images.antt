@@ -63,6 +63,10 @@ length-putClock b p = ap length (clock-stores b p) ∙ length-stores b (clockSto
 length-putNode : (L : Layout) (b : List ℕ) (p : Node) → length (putNode L b p) ≡ length b
 length-putNode L b p = ap length (node-stores L b p) ∙ length-stores b (nodeStores L p)
 
+length-after : (L : Layout) (b : List ℕ) (d : Delivered) → length (imageAfter L b d) ≡ length b
+unfolding imageAfter
+length-after L b d = length-putClock _ (d .state .node) ∙ length-putRows (L .masks) b headerSize (d .state .rows)
+
 pub bytes-after : (L : Layout) (b : List ℕ) (d : Delivered) → Bytes b → Bytes (imageAfter L b d)
 unfolding imageAfter
 bytes-after L b d h = rw clock-stores (bytes-stores _ _ (bytes-putRows (L .masks) b headerSize (d .state .rows) h))
@@ -286,9 +290,9 @@ state-back L b s head next fits long node behind =
         ∙ rows-read-back (L .masks) head headerSize (s .rows) (rw (fits .count, long) (fits .room)) (fits .rows)
 
 -- boot writes header and rows: decoding after encoding
-pub state-written : (L : Layout) (b : List ℕ) (s : State) → Fine L → StateFits L b s → Written L b s (putState L b s)
+pub state-read-back : (L : Layout) (b : List ℕ) (s : State) → Fine L → StateFits L b s → Written L b s (putState L b s)
 unfolding putState
-state-written L b s fine fits =
+state-read-back L b s fine fits =
     let head = putNode L b (s .node) in
     record {
       state =
@@ -317,9 +321,6 @@ module _
   abbrev held : List ℕ
   held = filled L b (d .state .rows)
 
-  long : length held ≡ length b
-  long = length-putRows (L .masks) b headerSize (d .state .rows)
-
   -- a field in front of the rows that the clock does not touch
   kept : (w i : ℕ) → T (apart w i (clockStores p)) → i + w ≤ headerSize → field w (putClock held p) i ≡ field w b i
   kept w i t q = rw clock-stores (stores-apart held w i (clockStores p) t ∙ front-field L b (d .state .rows) w i q)
@@ -327,7 +328,7 @@ module _
   clock-back : nodeOf (putClock held p) ≡ p
   unfolding nodeOf putClock clockStores putStores
   clock-back =
-      let room : headerSize ≤ length held = omega (arith, long, fits .room) in
+      let room : headerSize ≤ length held = omega (arith, length-putRows (L .masks) b headerSize (d .state .rows), fits .room) in
       λ d.
       record {
         lines = (same-byte (putClock held p) b p kept 0 tt (lit≤ tt) ∙ sym lines) d;
@@ -338,13 +339,13 @@ module _
         sent = field-back held room (clockStores p) 2 tt (fits .node .sent) d;
       }
 
-  pub delivery-written : Fixed L b → Written L b (d .state) (imageAfter L b d)
+  pub delivery-read-back : Fixed L b → Written L b (d .state) (imageAfter L b d)
   unfolding imageAfter
-  delivery-written fixed =
+  delivery-read-back fixed =
       record {
         state = state-back L b (d .state) b (putClock held p) fits refl clock-back (getD-putClock-after held p);
         fixed = fixed-same (putClock held p) b p kept L fixed;
-        size = length-putClock held p ∙ long;
+        size = length-after L b d;
       }
 
 -- ---- encoding after decoding

@@ -25,7 +25,7 @@ use Rattle.rules.specs.Describe.{freshRows}
 use Rattle.node.specs.Image.{Layout, layout, headerSize, nodeOf, rowsOf, stateOf, soundImage, putState}
 use Rattle.rules.specs.Clock.{Ordered, Below}
 use Rattle.node.proofs.Fresh.{fresh-lines, fresh-sound}
-use Rattle.node.proofs.Images.{Fine, NodeFits, StateFits, Written, fixed-facts, fixed-test, state-written, delivery-written}
+use Rattle.node.proofs.Images.{Fine, NodeFits, StateFits, Written, fixed-facts, fixed-test, state-read-back, delivery-read-back}
 use Rattle.node.proofs.Sound.{Sound, SoundBytes, sound-bytes, bytes-sound, rows-inside}
 use Rattle.node.proofs.Stays.{sound-after, ordered-after, rest-after, records-few, records-below}
 use Rattle.node.proofs.Taken.{Started, boot-taken, Taken, deliver-taken, frame-whole}
@@ -134,7 +134,7 @@ module _
   unfolding deliveryOf stateOf
   delivery-sound =
       let o = delivery-ordered in
-      let wrote = delivery-written L image d fits (o .lines) (o .faults) (o .own) (fixed-facts L image (before .fixed)) in
+      let wrote = delivery-read-back L image d fits (o .lines) (o .faults) (o .own) (fixed-facts L image (before .fixed)) in
       let sound = sound-after (L .window) last start port kind tick (works .wide) count (before .node) late in
       record { sound = written-sound L last image (d .state) _ sound fits wrote; state = wrote .state; size = wrote .size }
 
@@ -197,5 +197,5 @@ module _
   -- an accepted boot leaves a sound image, of the length it had, which holds the fresh node
   pub boot-sound : Begins L last image form (putState L image (freshState form))
   boot-sound =
-      let wrote = state-written L image (freshState form) (works .fine) fresh-fit in
+      let wrote = state-read-back L image (freshState form) (works .fine) fresh-fit in
       record { sound = written-sound L last image (freshState form) _ fresh fresh-fit wrote; state = wrote .state; size = wrote .size }

@@ -33,6 +33,14 @@ use Rattle.node.proofs.Sound.{sound-bytes}
 use Rattle.node.proofs.SoundImages.{Works, delivery-sound}
 use Rattle.node.proofs.Taken.{Taken, deliver-taken, WholeFrame, frame-whole}
 
+-- the set of a kind held under a serial
+abbrev held : Layout → List ℕ → ℕ → ℕ → Held
+held L image serial kind = heldUnder (rowsOf L image) serial kind
+
+-- every frame of the first list stands in the second
+abbrev Within : List Sent → List Sent → Type 0
+Within frames others = (frame : Sent) → List·Memᴰ frame frames → List·Memᴰ frame others
+
 -- ---- one call
 
 -- a call that changes no byte, and in which no frame is accepted from the serial
@@ -65,8 +73,8 @@ module _ (L : Layout) (last : ℕ) (works : Works L) (small : last < 2 ^ 32) (se
   delivery-heard : (image : List ℕ) (port : ℕ) (frame out : List ℕ) →
       Bytes image →
       deliverNumber L last image port frame (length out) ≡ 0 →
-      heldUnder (rowsOf L (imageAfter L image (deliveryOf L last image port frame))) serial kind
-      ≡ heard (L .window) kind (heldUnder (rowsOf L image) serial kind) (cond (eqb port serial) (sentBy frame ∷ []) [])
+      held L (imageAfter L image (deliveryOf L last image port frame)) serial kind
+      ≡ heard (L .window) kind (held L image serial kind) (cond (eqb port serial) (sentBy frame ∷ []) [])
   unfolding deliveryOf delivered stateOf heard
   delivery-heard image port frame out bytes e =
       ap (λ (s : State). heldUnder (s .rows) serial kind) (delivery-sound L last works small image port frame (length out) bytes e .state)
@@ -83,7 +91,7 @@ module _ (L : Layout) (last : ℕ) (works : Works L) (small : last < 2 ^ 32) (se
 
       go : Dec (port ≡ serial) →
           heldUnder (credit (L .window) port (getD frame 0 0) (field 4 frame 4) (rowsOf L image)) serial kind
-          ≡ heard (L .window) kind (heldUnder (rowsOf L image) serial kind) (cond (eqb port serial) (sentBy frame ∷ []) [])
+          ≡ heard (L .window) kind (held L image serial kind) (cond (eqb port serial) (sentBy frame ∷ []) [])
       go (yes q) =
           rw (eq-eqb port serial q, ← q)
           (under-own (L .window) (getD frame 0 0) (field 4 frame 4) kind (whole .kind) known port (rowsOf L image) listed)
@@ -93,15 +101,15 @@ module _ (L : Layout) (last : ℕ) (works : Works L) (small : last < 2 ^ 32) (se
 
   call-heard : (image : List ℕ) (call : Call) →
       Bytes image →
-      heldUnder (rowsOf L (called L last image call .image)) serial kind
-      ≡ heard (L .window) kind (heldUnder (rowsOf L image) serial kind) (acceptedBy L last image serial call)
+      held L (called L last image call .image) serial kind
+      ≡ heard (L .window) kind (held L image serial kind) (acceptedBy L last image serial call)
   unfolding called acceptedBy heard
   call-heard image Read bytes = refl
   call-heard image (Deliver port frame out) bytes = go (ℕ-discrete (deliverNumber L last image port frame (length out)) 0)
     where
       go : Dec (deliverNumber L last image port frame (length out) ≡ 0) →
-          heldUnder (rowsOf L (called L last image (Deliver port frame out) .image)) serial kind
-          ≡ heard (L .window) kind (heldUnder (rowsOf L image) serial kind) (acceptedBy L last image serial (Deliver port frame out))
+          held L (called L last image (Deliver port frame out) .image) serial kind
+          ≡ heard (L .window) kind (held L image serial kind) (acceptedBy L last image serial (Deliver port frame out))
       go (yes e) = rw (deliver-done L last image port frame out e) (delivery-heard image port frame out bytes e)
       go (no n) =
           let nothing = refused-nothing L last image serial port frame out n in
@@ -116,15 +124,15 @@ pub held-is-heard : (L : Layout) (last : ℕ) →
     (image : List ℕ) (calls : List Call) (serial kind : ℕ) →
     Bytes image →
     Known kind →
-    heldUnder (rowsOf L (imageLeft L last image calls)) serial kind
-    ≡ heard (L .window) kind (heldUnder (rowsOf L image) serial kind) (accepted L last image serial calls)
+    held L (imageLeft L last image calls) serial kind
+    ≡ heard (L .window) kind (held L image serial kind) (accepted L last image serial calls)
 unfolding imageLeft accepted heard
 held-is-heard L last works small image [] serial kind bytes known = refl
 held-is-heard L last works small image (call ∷ calls) serial kind bytes known =
     held-is-heard L last works small (called L last image call .image) calls serial kind (bytes-called L last image call bytes) known
     ∙ ap (λ (s : Held). heard (L .window) kind s (accepted L last (called L last image call .image) serial calls))
     (call-heard L last works small serial kind known image call bytes)
-    ∙ sym (heard-append (L .window) kind (heldUnder (rowsOf L image) serial kind) (acceptedBy L last image serial call) _)
+    ∙ sym (heard-append (L .window) kind (held L image serial kind) (acceptedBy L last image serial call) _)
 
 -- ---- order and repetition decide nothing
 
@@ -158,25 +166,25 @@ pub held-alike : (L : Layout) (last : ℕ) →
     Bytes image →
     Bytes other →
     Known kind →
-    heldUnder (rowsOf L image) serial kind ≡ heldUnder (rowsOf L other) serial kind →
-    ((frame : Sent) → List·Memᴰ frame (accepted L last image serial calls) → List·Memᴰ frame (accepted L last other serial others)) →
-    ((frame : Sent) → List·Memᴰ frame (accepted L last other serial others) → List·Memᴰ frame (accepted L last image serial calls)) →
-    heldUnder (rowsOf L (imageLeft L last image calls)) serial kind ≡ heldUnder (rowsOf L (imageLeft L last other others)) serial kind
+    held L image serial kind ≡ held L other serial kind →
+    Within (accepted L last image serial calls) (accepted L last other serial others) →
+    Within (accepted L last other serial others) (accepted L last image serial calls) →
+    held L (imageLeft L last image calls) serial kind ≡ held L (imageLeft L last other others) serial kind
 unfolding heard stateOf
 held-alike L last works small image other calls others serial kind bytes bytes′ known start there back =
     held-is-heard L last works small image calls serial kind bytes known ∙ go (soundImage L last image) refl
     ∙ ap (λ (s : Held). heard (L .window) kind s (accepted L last other serial others)) start
     ∙ sym (held-is-heard L last works small other others serial kind bytes′ known)
   where
-    proper : soundImage L last image ≡ true → Proper (L .window) (heldUnder (rowsOf L image) serial kind)
+    proper : soundImage L last image ≡ true → Proper (L .window) (held L image serial kind)
     proper e =
         held-proper (L .window) last (rowsOf L image) serial kind
         (sound-bytes L last image e .node .sets)
 
     go : (t : Bool) →
         soundImage L last image ≡ t →
-        heard (L .window) kind (heldUnder (rowsOf L image) serial kind) (accepted L last image serial calls)
-        ≡ heard (L .window) kind (heldUnder (rowsOf L image) serial kind) (accepted L last other serial others)
+        heard (L .window) kind (held L image serial kind) (accepted L last image serial calls)
+        ≡ heard (L .window) kind (held L image serial kind) (accepted L last other serial others)
     go true e = heard-same (L .window) kind _ _ _ (works .wide) (proper e) there back
     go false e =
         let none = unsound-none L last image serial calls (λ f. false≢true (sym e ∙ f)) in
@@ -189,8 +197,8 @@ pub held-same : (L : Layout) (last : ℕ) →
     (image : List ℕ) (calls others : List Call) (serial kind : ℕ) →
     Bytes image →
     Known kind →
-    ((frame : Sent) → List·Memᴰ frame (accepted L last image serial calls) → List·Memᴰ frame (accepted L last image serial others)) →
-    ((frame : Sent) → List·Memᴰ frame (accepted L last image serial others) → List·Memᴰ frame (accepted L last image serial calls)) →
-    heldUnder (rowsOf L (imageLeft L last image calls)) serial kind ≡ heldUnder (rowsOf L (imageLeft L last image others)) serial kind
+    Within (accepted L last image serial calls) (accepted L last image serial others) →
+    Within (accepted L last image serial others) (accepted L last image serial calls) →
+    held L (imageLeft L last image calls) serial kind ≡ held L (imageLeft L last image others) serial kind
 held-same L last works small image calls others serial kind bytes known there back =
     held-alike L last works small image image calls others serial kind bytes bytes known refl there back

@@ -329,14 +329,14 @@ module _
   unfolding nodeOf putClock clockStores putStores
   clock-back =
       let room : headerSize ≤ length held = omega (arith, length-putRows (L .masks) b headerSize (d .state .rows), fits .room) in
-      λ d.
+      λ x.
       record {
-        lines = (same-byte (putClock held p) b p kept 0 tt (lit≤ tt) ∙ sym lines) d;
-        faults = (same-byte (putClock held p) b p kept 1 tt (lit≤ tt) ∙ sym faults) d;
-        own = (kept 4 4 tt (lit≤ tt) ∙ sym own) d;
-        mode = byte-back held room (clockStores p) 0 tt (fits .node .mode) d;
-        tick = field-back held room (clockStores p) 1 tt (fits .node .tick) d;
-        sent = field-back held room (clockStores p) 2 tt (fits .node .sent) d;
+        lines = (same-byte (putClock held p) b p kept 0 tt (lit≤ tt) ∙ sym lines) x;
+        faults = (same-byte (putClock held p) b p kept 1 tt (lit≤ tt) ∙ sym faults) x;
+        own = (kept 4 4 tt (lit≤ tt) ∙ sym own) x;
+        mode = byte-back held room (clockStores p) 0 tt (fits .node .mode) x;
+        tick = field-back held room (clockStores p) 1 tt (fits .node .tick) x;
+        sent = field-back held room (clockStores p) 2 tt (fits .node .sent) x;
       }
 
   pub delivery-read-back : Fixed L b → Written L b (d .state) (imageAfter L b d)

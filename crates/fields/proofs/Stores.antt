@@ -1,7 +1,7 @@
 -- A run of stores of fields: what was stored reads back, and what lies apart stays. Whether two fields lie apart is computed, so a
 -- header of a dozen fields asks one law and not a hundred cases.
 -- Assumes nothing.
-use mathlib.Core.Path.{_≡_, refl, sym, ap, _∙_}
+use mathlib.Core.Path.{_≡_, refl, ap, _∙_}
 use mathlib.Core.Logic.{_⊎_, inl, inr}
 use mathlib.Core.Bool.{Bool, true, _&&_, _||_}
 use mathlib.Core.List.{List, [], _∷_, _++_}
@@ -12,7 +12,7 @@ use lib.Seq.{split-at}
 use lib.Dec.{T, leb, leb→le}
 use mir.Facts.{and-yes, or-yes}
 use Rattle.fields.specs.Field.{field, putField, Bytes}
-use Rattle.fields.proofs.Fields.{field-byte, field-put, field-put-other, getD-put-other, length-put, bytes-put}
+use Rattle.fields.proofs.Fields.{field-put, field-put-other, getD-put-other, length-put, bytes-put}
 
 -- a value written over a field
 pub record Store : Type 0 where
@@ -79,10 +79,6 @@ stored-at b ss k p t room fits =
     let s = getD ss k (store 0 0 0) in
     ap (λ (l : List Store). field (s .width) (putStores b l) (s .place)) (split-at ss k (store 0 0 0) p)
     ∙ stored b (take k ss) (s .width) (s .place) (s .value) (drop (suc k) ss) t room fits
-
--- bytes from a place on that no store reaches
-pub getD-stores : (b : List ℕ) (j : ℕ) (ss : List Store) → T (apart 1 j ss) → getD (putStores b ss) j 0 ≡ getD b j 0
-getD-stores b j ss t = sym (field-byte (putStores b ss) j) ∙ stores-apart b 1 j ss t ∙ field-byte b j
 
 abbrev pub under : ℕ → List Store → Bool
 under i [] = true

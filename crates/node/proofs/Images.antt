@@ -60,10 +60,10 @@ node-stores L b p = refl
 length-putClock : (b : List ℕ) (p : Node) → length (putClock b p) ≡ length b
 length-putClock b p = ap length (clock-stores b p) ∙ length-stores b (clockStores p)
 
-length-putNode : (L : Layout) (b : List ℕ) (p : Node) → length (putNode L b p) ≡ length b
+pub length-putNode : (L : Layout) (b : List ℕ) (p : Node) → length (putNode L b p) ≡ length b
 length-putNode L b p = ap length (node-stores L b p) ∙ length-stores b (nodeStores L p)
 
-length-after : (L : Layout) (b : List ℕ) (d : Delivered) → length (imageAfter L b d) ≡ length b
+pub length-after : (L : Layout) (b : List ℕ) (d : Delivered) → length (imageAfter L b d) ≡ length b
 unfolding imageAfter
 length-after L b d = length-putClock _ (d .state .node) ∙ length-putRows (L .masks) b headerSize (d .state .rows)
 

@@ -1,4 +1,4 @@
--- What the calls leave alone, for every outcome, refused ones included: bytes behind the image's size, bytes behind the records, and
+-- What the calls leave alone, for every outcome, refused ones included: lengths, bytes behind the image's size, bytes behind the records, and
 -- of the image itself all but mode, k, last echo and the port's row. Over the layout.
 -- Assumes nothing.
 use mathlib.Core.Path.{_≡_, refl, _∙_}
@@ -10,18 +10,18 @@ use Rattle.fields.specs.Field.{field, Bytes}
 use Rattle.forms.specs.Form.{linesOf}
 use Rattle.evidence.specs.Rows.{credit}
 use Rattle.evidence.proofs.Credits.{credit-elsewhere}
-use Rattle.evidence.proofs.Encoded.{getD-putRows-after}
+use Rattle.evidence.proofs.Encoded.{length-putRows, getD-putRows-after}
 use Rattle.evidence.proofs.Layouts.{length-rows}
 use Rattle.rules.specs.Delivery.{delivered}
 use Rattle.rules.specs.Describe.{bootRecords}
 use Rattle.rules.specs.Record.{recordSize}
-use Rattle.rules.proofs.Records.{getD-putRecords-after}
+use Rattle.rules.proofs.Records.{length-putRecords, getD-putRecords-after}
 use Rattle.node.specs.After.{InRow}
 use Rattle.node.specs.Calls.{bootNumber, booted, deliverNumber, deliveryOf, imageAfter}
 use Rattle.node.specs.Calls.{deliverOutcome}
 use Rattle.node.specs.Image.{Layout, headerSize, imageSize, rowsOf, stateOf, putState}
 use Rattle.node.proofs.Fresh.{fresh-lines}
-use Rattle.node.proofs.Images.{getD-putClock-other, getD-putClock-after, getD-putNode-after}
+use Rattle.node.proofs.Images.{length-after, length-putNode, getD-putClock-other, getD-putClock-after, getD-putNode-after}
 use Rattle.node.proofs.Outcomes.{either-way}
 
 -- ---- boot
@@ -46,6 +46,14 @@ module _ (L : Layout) (form image out : List ℕ) where
       either-way (bootNumber L form (length image) (length out)) image out _
       (λ o. recordSize * o .records ≤ i → getD (o .out) i 0 ≡ getD out i 0)
       (λ far. getD-putRecords-after out 0 bootRecords i far) (λ n far. refl)
+
+  -- and no buffer changes its length
+  pub boot-lengths : (length (booted L form image out .image) ≡ length image) × (length (booted L form image out .out) ≡ length out)
+  unfolding booted putState
+  boot-lengths =
+      either-way (bootNumber L form (length image) (length out)) image out _
+      (λ o. (length (o .image) ≡ length image) × (length (o .out) ≡ length out))
+      (length-putRows (L .masks) _ headerSize _ ∙ length-putNode L image _, length-putRecords out 0 bootRecords) (λ n. (refl, refl))
 
 -- ---- deliver
 
@@ -73,6 +81,16 @@ module _ (L : Layout) (last : ℕ) (image : List ℕ) (port : ℕ) (frame out : 
       either-way (deliverNumber L last image port frame (length out)) image out _
       (λ o. recordSize * o .records ≤ i → getD (o .out) i 0 ≡ getD out i 0)
       (λ far. getD-putRecords-after out 0 (deliveryOf L last image port frame .records) i (omega arith)) (λ n far. refl)
+
+  -- and no buffer changes its length
+  pub deliver-lengths :
+      (length (deliverOutcome L last image port frame out .image) ≡ length image)
+      × (length (deliverOutcome L last image port frame out .out) ≡ length out)
+  unfolding deliverOutcome
+  deliver-lengths =
+      either-way (deliverNumber L last image port frame (length out)) image out _
+      (λ o. (length (o .image) ≡ length image) × (length (o .out) ≡ length out))
+      (length-after L image _, length-putRecords out 0 _) (λ n. (refl, refl))
 
   -- no byte of the image changes but mode, k, last echo and the port's row
   pub deliver-only : (i : ℕ) →

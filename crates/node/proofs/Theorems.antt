@@ -43,8 +43,8 @@ use Rattle.node.specs.declared.face.Reading.{Reading}
 use Rattle.node.proofs.Images.{state-again}
 use Rattle.node.proofs.Conditions.{sound-says}
 use Rattle.node.proofs.Heard.{held-is-heard, held-same}
-use Rattle.node.proofs.Kept.{boot-image-length, boot-out-length, boot-behind-image, boot-behind-records}
-use Rattle.node.proofs.Kept.{deliver-image-length, deliver-out-length, deliver-behind-image, deliver-behind-records, deliver-only}
+use Rattle.node.proofs.Kept.{boot-lengths, boot-behind-image, boot-behind-records}
+use Rattle.node.proofs.Kept.{deliver-lengths, deliver-behind-image, deliver-behind-records, deliver-only}
 use Rattle.node.proofs.Lives.{life-order}
 use Rattle.node.proofs.Numbers.{boot-says, deliver-says, read-says}
 use Rattle.node.proofs.Outcomes.{boot-told, boot-done, boot-refused, deliver-told, deliver-done, deliver-refused}
@@ -86,7 +86,7 @@ module _ (form image out : List ℕ) where
 
   -- No buffer changes its length; bytes behind the image's size stay, and bytes behind the records
   pub boot-keeps-lengths : (length (boots .image) ≡ length image) × (length (boots .out) ≡ length out)
-  boot-keeps-lengths = (boot-image-length layout form image out, boot-out-length layout form image out)
+  boot-keeps-lengths = boot-lengths layout form image out
 
   pub boot-behind-the-image : (i : ℕ) → imageSize layout (linesOf form) ≤ i → getD (boots .image) i 0 ≡ getD image i 0
   boot-behind-the-image = boot-behind-image layout form image out
@@ -149,8 +149,7 @@ module _ (image : List ℕ) (port : ℕ) (frame out : List ℕ) where
 
   -- No buffer changes its length; bytes behind the image's size stay, and bytes behind the records
   pub deliver-keeps-lengths : (length (delivers .image) ≡ length image) × (length (delivers .out) ≡ length out)
-  deliver-keeps-lengths =
-      (deliver-image-length layout lastTick image port frame out, deliver-out-length layout lastTick image port frame out)
+  deliver-keeps-lengths = deliver-lengths layout lastTick image port frame out
 
   pub deliver-behind-the-image : (i : ℕ) → imageSize layout (getD image 0 0) ≤ i → getD (delivers .image) i 0 ≡ getD image i 0
   deliver-behind-the-image = deliver-behind-image layout lastTick image port frame out

@@ -80,6 +80,7 @@ stored-at b ss k p t room fits =
     ap (λ (l : List Store). field (s .width) (putStores b l) (s .place)) (split-at ss k (store 0 0 0) p)
     ∙ stored b (take k ss) (s .width) (s .place) (s .value) (drop (suc k) ss) t room fits
 
+-- every store lies below a place; so bytes from there on stay
 abbrev pub under : ℕ → List Store → Bool
 under i [] = true
 under i (s ∷ ss) = leb (s .place + s .width) i && under i ss

@@ -3,10 +3,8 @@
 -- two say what 22 holds after echo 69, and after echo 70 instead.
 -- Assumes nothing.
 use mathlib.Core.Path.{_≡_, refl}
-use mathlib.Core.List.{List, [], _∷_, _++_}
-use mathlib.Core.Bool.{cond}
+use mathlib.Core.List.{List, [], _∷_}
 use Prim.Native.Nat.{ℕ, zero, suc, _*_}
-use lib.Dec.{eqb}
 use lib.ListN.{take, replicate}
 use Rattle.fields.specs.Kind.{INIT, ECHO}
 use Rattle.fields.specs.Field.{field, putField, words}
@@ -14,32 +12,34 @@ use Rattle.forms.specs.Form.{formNumber}
 use Rattle.forms.specs.Frame.{frameNumber, putFrame}
 use Rattle.forms.specs.Roster.{count, twins, rosterNumber}
 use Rattle.sets.specs.Ticks.{Held, bit, raised, marked, holds, insert, insertAll, run, added, add, proper}
-use Rattle.evidence.specs.Rows.{Row, setOf, setAt, rowAt, rowsAt, putSet, putRow, putRows, creditRow, creditOf, credit, properSet, properRows}
-use Rattle.evidence.specs.Holders.{holders, firstDown, bestOf, bestAmong, greatest}
+use Rattle.evidence.specs.Rows.{setOf, setAt, rowAt, rowsAt, putSet, putRow, putRows}
+use Rattle.evidence.specs.Rows.{creditRow, creditOf, credit, properSet, properRows}
+use Rattle.evidence.specs.Holders.{holders, heldUnder, firstDown, bestOf, bestAmong, greatest}
 use Rattle.rules.specs.Describe.{window, lastTick, room, freshRows}
 use Rattle.rules.specs.Record.{recordSize, putRecord, putRecords}
 use Rattle.rules.specs.Rules.{firstRule, fired, said, firing, settle}
 use Rattle.rules.specs.Delivery.{answer, settled, delivered}
 use Rattle.node.specs.Calls.{Outcome, bootNumber, freshState, booted, deliverNumber, deliveryOf, imageAfter, deliverOutcome}
-use Rattle.node.specs.Image.{layout, imageSize, nodeOf, rowsOf, stateOf, putClock, putFixed, putNode, putState, fixedHeader, soundState, soundImage}
+use Rattle.node.specs.Image.{layout, imageSize, nodeOf, rowsOf, stateOf, putClock, putFixed, putNode, putState}
+use Rattle.node.specs.Image.{fixedHeader, soundState, soundImage}
 
 -- ---- bytes, written out by 01's layouts; every number here is below 256
 
-word : ℕ → List ℕ → List ℕ
+abbrev word : ℕ → List ℕ → List ℕ
 word low more = 0 ∷ 0 ∷ 0 ∷ low ∷ more
 
 -- n = 4, f = 1, offset 8, own serial 11, and the serials 11, 22, 33, 44
-form : List ℕ
+abbrev form : List ℕ
 form = 4 ∷ 1 ∷ 0 ∷ 8 ∷ word 11 (word 11 (word 22 (word 33 (word 44 []))))
 
-frame : ℕ → ℕ → List ℕ → List ℕ
+abbrev frame : ℕ → ℕ → List ℕ → List ℕ
 frame kind tick more = kind ∷ 0 ∷ 0 ∷ 0 ∷ word tick more
 
 -- a record to one serial, or to all
-to : ℕ → ℕ → ℕ → List ℕ → List ℕ
+abbrev to : ℕ → ℕ → ℕ → List ℕ → List ℕ
 to dest kind tick more = word dest (frame kind tick more)
 
-all : ℕ → ℕ → List ℕ → List ℕ
+abbrev all : ℕ → ℕ → List ℕ → List ℕ
 all kind tick more = to 0 kind tick more
 
 -- ---- the play
@@ -48,10 +48,10 @@ record Event : Type 0 where
   port : ℕ
   frame : List ℕ
 
-echo : ℕ → ℕ → Event
+abbrev echo : ℕ → ℕ → Event
 echo port tick = record { port = port; frame = frame ECHO tick [] }
 
-init : ℕ → ℕ → Event
+abbrev init : ℕ → ℕ → Event
 init port tick = record { port = port; frame = frame INIT tick [] }
 
 -- what a line of the table says
@@ -61,10 +61,10 @@ record Line : Type 0 where
   k : ℕ
   mode : ℕ
 
-line : List ℕ → ℕ → ℕ → Line
+abbrev line : List ℕ → ℕ → ℕ → Line
 line sent k mode = record { number = 0; sent = sent; k = k; mode = mode }
 
-lineOf : Outcome → Line
+abbrev lineOf : Outcome → Line
 lineOf o =
     record {
       number = o .number;
@@ -73,10 +73,10 @@ lineOf o =
       mode = nodeOf (o .image) .mode;
     }
 
-boots : Outcome
+abbrev boots : Outcome
 boots = booted layout form (replicate (imageSize layout 4) 0) (replicate room 0)
 
-deliver : List ℕ → Event → Outcome
+abbrev deliver : List ℕ → Event → Outcome
 deliver image e = deliverOutcome layout lastTick image (e .port) (e .frame) (replicate room 0)
 
 -- a list turned round onto another: turned twice it is the list, and every byte of it is computed once, before it is used again
@@ -89,43 +89,41 @@ onwards : {A : Type 0} → List ℕ → List ℕ → (List ℕ → A) → A
 onwards [] more next = next (turned more [])
 onwards (x ∷ xs) more next = onwards xs (x ∷ more) next
 
-play : List Event → Outcome → List Line
-play [] o = lineOf o ∷ []
-play (e ∷ es) o = lineOf o ∷ onwards (o .image) [] (λ image. play es (deliver image e))
-
 -- the echo ticks below n that a set holds, the greatest first
 ticksBelow : ℕ → Held → List ℕ
 ticksBelow zero s = []
 ticksBelow (suc n) s = elim (holds window s n) [ zero ↦ ticksBelow n s | suc k ↦ n ∷ ticksBelow n s ]
 
-heldFrom : ℕ → List Row → List ℕ
-heldFrom serial [] = []
-heldFrom serial (row ∷ rows) = cond (eqb (row .serial) serial) (ticksBelow 80 (row .echo)) (heldFrom serial rows)
+-- what a serial holds after a call
+abbrev heldFrom : ℕ → Outcome → List ℕ
+heldFrom serial o = ticksBelow 80 (heldUnder (rowsOf layout (o .image)) serial ECHO)
 
--- what a serial holds after the events
-held : ℕ → List Event → Outcome → List ℕ
-held serial [] o = heldFrom serial (rowsOf layout (o .image))
-held serial (e ∷ es) o = onwards (o .image) [] (λ image. held serial es (deliver image e))
-
--- W2 to W9
-story : List Event
-story = echo 11 0 ∷ echo 22 0 ∷ echo 33 0 ∷ init 11 1 ∷ init 22 1 ∷ echo 44 1 ∷ echo 33 5 ∷ echo 22 6 ∷ echo 44 4 ∷ []
-
+-- a line for each call, and what 22 holds after one more
 record Table : Type 0 where
   lines : List Line
   with-69 : List ℕ
   with-70 : List ℕ
 
-played : Table
-played =
+abbrev behind : Outcome → Table → Table
+behind o t = record { lines = lineOf o ∷ t .lines; with-69 = t .with-69; with-70 = t .with-70 }
+
+play : List Event → Outcome → Table
+play [] o =
+    onwards (o .image) []
+    (λ image.
     record {
-      lines = play story boots;
-      with-69 = held 22 (story ++ echo 22 69 ∷ []) boots;
-      with-70 = held 22 (story ++ echo 22 70 ∷ []) boots;
-    }
+      lines = lineOf o ∷ [];
+      with-69 = heldFrom 22 (deliver image (echo 22 69));
+      with-70 = heldFrom 22 (deliver image (echo 22 70));
+    })
+play (e ∷ es) o = behind o (onwards (o .image) [] (λ image. play es (deliver image e)))
+
+-- W2 to W9
+abbrev story : List Event
+story = echo 11 0 ∷ echo 22 0 ∷ echo 33 0 ∷ init 11 1 ∷ init 22 1 ∷ echo 44 1 ∷ echo 33 5 ∷ echo 22 6 ∷ echo 44 4 ∷ []
 
 settled-examples :
-    played
+    play story boots
     ≡ record {
       lines =
           line (all ECHO 0 []) 0 0
@@ -142,5 +140,5 @@ settled-examples :
       with-69 = 69 ∷ 68 ∷ 67 ∷ 6 ∷ [];
       with-70 = 70 ∷ 69 ∷ 68 ∷ [];
     }
-unfolding word form frame to all echo init line lineOf boots deliver play turned onwards held ticksBelow heldFrom story played booted bootNumber formNumber freshState freshRows putState putNode putFixed putClock putRecords putRecord putFrame deliverOutcome deliverNumber deliveryOf imageAfter soundImage soundState fixedHeader stateOf nodeOf rosterNumber count twins frameNumber field putField words rowsAt rowAt setAt putRows putRow putSet properRows properSet proper delivered settled answer settle firing firstRule fired said credit creditOf creditRow setOf holders greatest bestAmong bestOf firstDown holds bit insert insertAll raised marked run added add
+unfolding turned onwards ticksBelow play booted bootNumber freshState deliverOutcome deliverNumber deliveryOf imageAfter formNumber frameNumber rosterNumber count twins soundImage soundState fixedHeader stateOf nodeOf putState putNode putFixed putClock freshRows field putField words putFrame putRecord putRecords rowsAt rowAt setAt putRows putRow putSet properRows properSet proper delivered settled answer settle firing firstRule fired said credit creditOf creditRow setOf holders heldUnder greatest bestAmong bestOf firstDown holds bit insert insertAll raised marked run added add
 settled-examples = refl

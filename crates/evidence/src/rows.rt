@@ -1,6 +1,6 @@
 // Rows as they lie in an image's bytes, looked at and updated where they lie: nothing is unpacked. Each function takes the whole
-// buffer and the place i where the rows begin. These are joints between layers: each asks that its rows lie inside the buffer
-// and that the window fits a mask, which the node has checked before.
+// buffer and a place in it: of a set, or of the first row. These are joints between layers: what they look at has to lie inside the
+// buffer, and the window has to fit a mask, which the node has checked before.
 use fields::field::long;
 use fields::field::put_long;
 use fields::field::put_word;

@@ -1,4 +1,4 @@
--- The two kinds of a frame by name (01, "Layouts"): every layer above speaks of them, and no number stands for them anywhere else.
+-- The two kinds of a frame by name (01, "Layouts"): every layer above speaks of them by these.
 use Prim.Native.Nat.{ℕ}
 
 abbrev pub INIT : ℕ

@@ -8,10 +8,9 @@ use lib.Dec.{ltb, eqb}
 use Rattle.fields.specs.Field.{field}
 use Rattle.forms.specs.Form.{WriteTold, doneWrite, refusedWrite}
 use Rattle.forms.specs.Frame.{frameSize}
-use Rattle.forms.specs.Roster.{mostLines}
 use Rattle.rules.specs.Describe.{room}
 use Rattle.node.specs.Calls.{Outcome, booted, deliverOutcome}
-use Rattle.node.specs.Image.{Layout, layout, imageSize, nodeOf}
+use Rattle.node.specs.Image.{Layout, mostImage, nodeOf}
 use Rattle.log.specs.Decimal.{decimal}
 use Rattle.log.specs.Log.{framePlace, eventSize, mostEvents, countOf, eventsAt, formOf, logNumber, lay}
 
@@ -77,7 +76,7 @@ eventLines L last log (suc c) i e image out =
 
 -- the buffers that the player lends to the calls: room for every image, and for every call's records
 abbrev pub imageLent : List ℕ
-imageLent = replicate (imageSize layout mostLines) 0
+imageLent = replicate mostImage 0
 
 abbrev pub outLent : List ℕ
 outLent = replicate room 0

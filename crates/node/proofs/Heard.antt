@@ -32,6 +32,7 @@ use Rattle.node.proofs.Outcomes.{deliver-done, deliver-refused}
 use Rattle.node.proofs.Sound.{sound-bytes}
 use Rattle.node.proofs.SoundImages.{Works, delivery-sound}
 use Rattle.node.proofs.Taken.{Taken, deliver-taken, WholeFrame, frame-whole}
+use Rattle.sets.specs.Sets.{tickCount}
 
 -- the set of a kind held under a serial
 abbrev held : Layout → List ℕ → ℕ → ℕ → Held
@@ -68,7 +69,7 @@ bytes-called L last image (Deliver port frame out) h = go (ℕ-discrete (deliver
     go (yes e) = rw (deliver-done L last image port frame out e) (bytes-after L image _ h)
     go (no n) = rw (deliver-refused L last image port frame out n) h
 
-module _ (L : Layout) (last : ℕ) (works : Works L) (small : last < 2 ^ 32) (serial kind : ℕ) (known : Known kind) where
+module _ (L : Layout) (last : ℕ) (works : Works L) (small : last < tickCount) (serial kind : ℕ) (known : Known kind) where
   -- a frame that is taken is heard under its port's serial
   delivery-heard : (image : List ℕ) (port : ℕ) (frame out : List ℕ) →
       Bytes image →
@@ -120,7 +121,7 @@ module _ (L : Layout) (last : ℕ) (works : Works L) (small : last < 2 ^ 32) (se
 -- what is held under a serial after any calls: what was held at the start, and the frames accepted from it since, heard
 pub held-is-heard : (L : Layout) (last : ℕ) →
     Works L →
-    last < 2 ^ 32 →
+    last < tickCount →
     (image : List ℕ) (calls : List Call) (serial kind : ℕ) →
     Bytes image →
     Known kind →
@@ -161,7 +162,7 @@ no-members (frame ∷ frames) n = absurd (n frame (List·Memᴰ·head refl))
 -- from the same set at the start, with the same frames accepted, in any order and however often, the same set is left
 pub held-alike : (L : Layout) (last : ℕ) →
     Works L →
-    last < 2 ^ 32 →
+    last < tickCount →
     (image other : List ℕ) (calls others : List Call) (serial kind : ℕ) →
     Bytes image →
     Bytes other →
@@ -193,7 +194,7 @@ held-alike L last works small image other calls others serial kind bytes bytes�
 -- two runs of calls on one image in which the same frames were accepted from a serial leave the same set under it
 pub held-same : (L : Layout) (last : ℕ) →
     Works L →
-    last < 2 ^ 32 →
+    last < tickCount →
     (image : List ℕ) (calls others : List Call) (serial kind : ℕ) →
     Bytes image →
     Known kind →

@@ -17,20 +17,22 @@ use Rattle.evidence.proofs.Layouts.{rows-same, put-rows}
 use Rattle.evidence.proofs.Encoded.{RowsFit, rows-read-back, length-putRows, bytes-putRows, getD-putRows-before}
 use Rattle.rules.specs.Delivery.{State, Delivered}
 use Rattle.node.specs.Calls.{imageAfter}
+use Rattle.node.specs.Image.{modePlace, ownPlace, tickPlace, sentPlace}
 use Rattle.node.specs.Image.{Layout, headerSize, imageSize, nodeOf, rowsOf, stateOf}
 use Rattle.node.specs.Image.{putClock, putFixed, putNode, putState, fixedHeader}
 use Rattle.rules.specs.declared.node.Node.{Node}
 use Rattle.fields.proofs.Stores.{Store, store, putStores, apart, stored-at, stores-apart}
 use Rattle.fields.proofs.Stores.{length-stores, bytes-stores, getD-above}
+use Rattle.sets.specs.Sets.{tickCount}
 
 -- a node whose numbers fit their fields
 pub record NodeFits (p : Node) : Type 0 where
   pub lines : p .lines < 256
   pub faults : p .faults < 256
-  pub own : p .own < 2 ^ 32
+  pub own : p .own < tickCount
   pub mode : p .mode < 256
-  pub tick : p .tick < 2 ^ 32
-  pub sent : p .sent < 2 ^ 32
+  pub tick : p .tick < tickCount
+  pub sent : p .sent < tickCount
 
 -- a layout whose own numbers fit
 pub record Fine (L : Layout) : Type 0 where
@@ -40,13 +42,13 @@ pub record Fine (L : Layout) : Type 0 where
 -- ---- the header, as a run of stores
 
 clockStores : Node → List Store
-clockStores p = store 1 2 (p .mode) ∷ store 4 8 (p .tick) ∷ store 4 12 (p .sent) ∷ []
+clockStores p = store 1 modePlace (p .mode) ∷ store 4 tickPlace (p .tick) ∷ store 4 sentPlace (p .sent) ∷ []
 
 nodeStores : Layout → Node → List Store
 nodeStores L p =
     store 1 3 (L .mark) ∷ store 2 16 headerSize ∷ store 2 18 (imageSize L (p .lines))
     ∷ store 4 20 0 ∷ store 4 24 0 ∷ store 4 28 0
-    ∷ store 1 0 (p .lines) ∷ store 1 1 (p .faults) ∷ store 4 4 (p .own)
+    ∷ store 1 0 (p .lines) ∷ store 1 1 (p .faults) ∷ store 4 ownPlace (p .own)
     ∷ clockStores p
 
 clock-stores : (b : List ℕ) (p : Node) → putClock b p ≡ putStores b (clockStores p)
@@ -79,9 +81,9 @@ bytes-putState L b s h = bytes-putRows (L .masks) _ headerSize (s .rows) (rw nod
 
 -- a byte that is not of mode, k or last echo
 pub getD-putClock-other : (b : List ℕ) (p : Node) (j : ℕ) →
-    (j ≡ 2 → ⊥) →
-    ((8 ≤ j) × (j < 12) → ⊥) →
-    ((12 ≤ j) × (j < 16) → ⊥) →
+    (j ≡ modePlace → ⊥) →
+    ((tickPlace ≤ j) × (j < tickPlace + 4) → ⊥) →
+    ((sentPlace ≤ j) × (j < sentPlace + 4) → ⊥) →
     getD (putClock b p) j 0 ≡ getD b j 0
 unfolding putClock
 getD-putClock-other b p j mode tick sent =

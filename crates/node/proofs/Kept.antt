@@ -1,9 +1,9 @@
--- What the calls leave alone, for every outcome, refused ones included: lengths, bytes behind the image's size, bytes behind the records, and
--- of the image itself all but mode, k, last echo and the port's row. Over the layout.
+-- What the calls leave alone, for every outcome, refused ones included: lengths, bytes behind the image's size, bytes behind the
+-- records, and of the image itself all but mode, k, last echo and the port's row. Over the layout.
 -- Assumes nothing.
 use mathlib.Core.Path.{_≡_, refl, _∙_}
 use mathlib.Core.List.{List}
-use Prim.Native.Nat.{ℕ, _*_, _≤_, _<_}
+use Prim.Native.Nat.{ℕ, _+_, _*_, _≤_, _<_}
 use native.Mathlib.Omega.{arith}
 use lib.ListN.{length, getD, length-map}
 use Rattle.fields.specs.Field.{field, Bytes}
@@ -19,7 +19,7 @@ use Rattle.rules.proofs.Records.{length-putRecords, getD-putRecords-after}
 use Rattle.node.specs.After.{InRow}
 use Rattle.node.specs.Calls.{bootNumber, booted, deliverNumber, deliveryOf, imageAfter}
 use Rattle.node.specs.Calls.{deliverOutcome}
-use Rattle.node.specs.Image.{Layout, headerSize, imageSize, rowsOf, stateOf, putState}
+use Rattle.node.specs.Image.{Layout, modePlace, tickPlace, sentPlace, headerSize, imageSize, rowsOf, stateOf, putState}
 use Rattle.node.proofs.Fresh.{fresh-lines}
 use Rattle.node.proofs.Images.{length-after, length-putNode, getD-putClock-other, getD-putClock-after, getD-putNode-after}
 use Rattle.node.proofs.Outcomes.{either-way}
@@ -95,9 +95,9 @@ module _ (L : Layout) (last : ℕ) (image : List ℕ) (port : ℕ) (frame out : 
   -- no byte of the image changes but mode, k, last echo and the port's row
   pub deliver-only : (i : ℕ) →
       Bytes image →
-      (i ≡ 2 → ⊥) →
-      ((8 ≤ i) × (i < 12) → ⊥) →
-      ((12 ≤ i) × (i < 16) → ⊥) →
+      (i ≡ modePlace → ⊥) →
+      ((tickPlace ≤ i) × (i < tickPlace + 4) → ⊥) →
+      ((sentPlace ≤ i) × (i < sentPlace + 4) → ⊥) →
       (InRow L image port i → ⊥) →
       getD (deliverOutcome L last image port frame out .image) i 0 ≡ getD image i 0
   unfolding deliverOutcome imageAfter deliveryOf delivered stateOf

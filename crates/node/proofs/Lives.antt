@@ -18,7 +18,7 @@ use Rattle.node.specs.Calls.{Outcome, outcome, bootNumber, freshState, b
 use Rattle.node.specs.Calls.{Reading, readNumber, reading}
 use Rattle.rules.specs.Delivery.{State, Delivered, delivered}
 use Rattle.rules.specs.Describe.{freshNode, freshRows}
-use Rattle.node.specs.Image.{Layout, headerSize, nodeOf, rowsOf, rosterIn, stateOf, soundImage}
+use Rattle.node.specs.Image.{Layout, modePlace, tickPlace, headerSize, nodeOf, rowsOf, rosterIn, stateOf, soundImage}
 use Rattle.rules.specs.Record.{Outgoing, putRecords}
 use Rattle.node.specs.Runs.{Call, Deliver, Read, under, Seen, seenBy, seenIn, called, observed, life}
 use Rattle.rules.specs.declared.node.Node.{Node}
@@ -26,6 +26,7 @@ use Rattle.node.proofs.Images.{bytes-after, bytes-putState}
 use Rattle.node.proofs.Orderly.{delivery-order, under-order}
 use Rattle.node.proofs.Taken.{boot-taken}
 use Rattle.node.proofs.SoundImages.{Works, delivery-sound, boot-sound}
+use Rattle.sets.specs.Sets.{tickCount}
 
 -- ---- two images that a truck cannot tell apart
 
@@ -64,8 +65,8 @@ module _ (L : Layout) (last : ℕ) (a b : List ℕ) (h : Pair L last a b) where
   same-reading : reading L last a ≡ reading L last b
   unfolding reading readNumber stateOf nodeOf
   same-reading =
-      let mode : getD a 2 0 ≡ getD b 2 0 = ap (λ (p : Node). p .mode) (h .same .node) in
-      let clock : field 4 a 8 ≡ field 4 b 8 = ap (λ (p : Node). p .tick) (h .same .node) in
+      let mode : getD a modePlace 0 ≡ getD b modePlace 0 = ap (λ (p : Node). p .mode) (h .same .node) in
+      let clock : field 4 a tickPlace ≡ field 4 b tickPlace = ap (λ (p : Node). p .tick) (h .same .node) in
       rw (h .first, h .second, mode, clock)
 
 module _ (L : Layout) (last : ℕ) (a b : List ℕ) where
@@ -144,7 +145,7 @@ deliveries w last s t port kind j m =
     (ap (λ (p : Node). delivered w last (record { node = p; rows = t .rows }) port kind j) (m .node))
     (record { node = o .0; rows = o .2 }, o .1)
 
-module _ (L : Layout) (last : ℕ) (works : Works L) (small : last < 2 ^ 32) where
+module _ (L : Layout) (last : ℕ) (works : Works L) (small : last < tickCount) where
   deliver-met :
       (a b : List ℕ) (port : ℕ) (frame out : List ℕ)
       → Pair L last a b
@@ -240,7 +241,7 @@ module _ (b c : List ℕ) (r : Reordered b c) where
 pub life-order :
     (L : Layout) (last : ℕ)
     → Works L
-    → last < 2 ^ 32
+    → last < tickCount
     → (b c image out : List ℕ) (calls : List Call)
     → Bytes b
     → Bytes c

@@ -12,7 +12,7 @@ use Rattle.forms.specs.Table.{Says}
 use Rattle.forms.proofs.Meaning.{less, equal, in-front, none, form-then, frame-says, frame-told, absent}
 use Rattle.rules.specs.Describe.{room}
 use Rattle.node.specs.Calls.{bootNumber, booted, deliverNumber, deliverOutcome, readNumber, reading}
-use Rattle.node.specs.Image.{Layout, imageSize, rosterIn, soundImage}
+use Rattle.node.specs.Image.{Layout, modePlace, imageSize, rosterIn, soundImage}
 use Rattle.node.specs.Table.{bootChecks, deliverChecks, readChecks}
 use Rattle.node.proofs.Conditions.{not-sound-says}
 use Rattle.node.proofs.Outcomes.{boot-told, deliver-told, read-told}
@@ -51,4 +51,4 @@ pub read-says : (L : Layout) (last : ℕ) (image : List ℕ) → Says (reading L
 unfolding readNumber
 read-says L last image =
     rw (read-told L last image, swap (soundImage L last image))
-    (in-front 8 (not-sound-says L last image) (omega arith) (in-front 12 (equal (getD image 2 0) 0) (omega arith) none))
+    (in-front 8 (not-sound-says L last image) (omega arith) (in-front 12 (equal (getD image modePlace 0) 0) (omega arith) none))

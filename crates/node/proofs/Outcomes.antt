@@ -12,7 +12,7 @@ use Rattle.fields.specs.Field.{field}
 use Rattle.forms.proofs.Meaning.{told}
 use Rattle.node.specs.Calls.{Outcome, refused, outcome, bootNumber, bootDone, booted, deliverNumber, deliverDone, deliverOutcome}
 use Rattle.node.specs.Calls.{Reading, readNumber, unread, reading}
-use Rattle.node.specs.Image.{Layout, nodeOf}
+use Rattle.node.specs.Image.{Layout, tickPlace, nodeOf}
 
 -- ---- any outcome
 
@@ -81,7 +81,7 @@ module _ (L : Layout) (last : ℕ) (image : List ℕ) where
   reads = readNumber L last image
 
   abbrev answer : Bool → Reading
-  answer t = cond t (record { number = 0; clock = field 4 image 8 }) (unread reads)
+  answer t = cond t (record { number = 0; clock = field 4 image tickPlace }) (unread reads)
 
   pub read-told : reading L last image .number ≡ reads
   unfolding reading

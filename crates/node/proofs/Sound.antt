@@ -17,7 +17,7 @@ use Rattle.evidence.specs.Serials.{serialsIn}
 use Rattle.evidence.proofs.Growth.{AllKept, all-kept, all-kept-test}
 use Rattle.evidence.proofs.Layouts.{serials-of-rows}
 use Rattle.rules.specs.Delivery.{State}
-use Rattle.node.specs.Image.{Layout, layout, headerSize, imageSize, rosterIn, nodeOf, stateOf, fixedHeader, soundState, soundImage}
+use Rattle.node.specs.Image.{Layout, ownPlace, layout, headerSize, imageSize, rosterIn, nodeOf, stateOf, fixedHeader, soundState, soundImage}
 use Rattle.rules.specs.Rules.{firstRule}
 use Rattle.rules.specs.declared.node.Rule.the-variants.{Rest}
 use Rattle.rules.proofs.Firing.{rest-true}
@@ -112,16 +112,16 @@ module _ (f own mb n : ℕ) (b : List ℕ) (i : ℕ) (z : rosterNumber f own (se
 -- ---- what a sound image gives to a delivery
 
 module _ (last : ℕ) (b : List ℕ) (h : SoundBytes layout last b) where
-  sound-roster : rosterNumber (getD b 1 0) (field 4 b 4) (rosterIn layout b) ≡ 0
+  sound-roster : rosterNumber (getD b 1 0) (field 4 b ownPlace) (rosterIn layout b) ≡ 0
   unfolding stateOf nodeOf
-  sound-roster = rows-roster (getD b 1 0) (field 4 b 4) maskBytes (getD b 0 0) b headerSize (h .node .roster)
+  sound-roster = rows-roster (getD b 1 0) (field 4 b ownPlace) maskBytes (getD b 0 0) b headerSize (h .node .roster)
 
   sound-limits : Limits (getD b 1 0) (getD b 0 0)
-  sound-limits = roster-lines (getD b 1 0) (field 4 b 4) (getD b 0 0) rowBytes b headerSize sound-roster
+  sound-limits = roster-lines (getD b 1 0) (field 4 b ownPlace) (getD b 0 0) rowBytes b headerSize sound-roster
 
   pub sound-rows : RowsIn (nodeOf b) b headerSize
   unfolding nodeOf
   sound-rows = record { inside = rows-inside layout b (h .fixed) (h .stated); fewer = omega (arith, sound-limits) }
 
   pub sound-once : (port : ℕ) → count port (rosterIn layout b) ≤ 1
-  sound-once port = count-once port (rosterIn layout b) (roster-twins (getD b 1 0) (field 4 b 4) (rosterIn layout b) sound-roster)
+  sound-once port = count-once port (rosterIn layout b) (roster-twins (getD b 1 0) (field 4 b ownPlace) (rosterIn layout b) sound-roster)

@@ -14,7 +14,7 @@ use Rattle.forms.specs.Form.{linesOf, faultsOf, ownOf, serialsPlace, serialsOf}
 use Rattle.forms.proofs.Told.{form-roster}
 use Rattle.fields.proofs.Fields.{field-lt}
 use Rattle.fields.proofs.Words.{Words, length-words, words-words}
-use Rattle.sets.specs.Sets.{maskBits}
+use Rattle.sets.specs.Sets.{tickCount, maskBits}
 use Rattle.sets.specs.Ticks.{empty}
 use Rattle.evidence.proofs.Layouts.{length-rows}
 use Rattle.evidence.proofs.Encoded.{SetFits, RowsFit, rows-fit, credit-fits, length-credit}
@@ -70,7 +70,7 @@ written-sound L last b s next sound fits wrote =
 -- ---- an accepted delivery
 
 module _
-    (L : Layout) (last : ℕ) (works : Works L) (small : last < 2 ^ 32) (image : List ℕ) (port : ℕ) (frame : List ℕ) (outLength : ℕ)
+    (L : Layout) (last : ℕ) (works : Works L) (small : last < tickCount) (image : List ℕ) (port : ℕ) (frame : List ℕ) (outLength : ℕ)
     (bytes : Bytes image) (ok : deliverNumber L last image port frame outLength ≡ 0) where
   abbrev start : State
   start = stateOf L image

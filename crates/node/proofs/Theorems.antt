@@ -8,7 +8,7 @@ use mathlib.Core.Path.{_≡_, sym, ap, _∙_, subst}
 use mathlib.Core.Bool.{true}
 use mathlib.Core.Logic.{_↔_, _⊎_}
 use mathlib.Core.List.{List, [], _∷_, List·Memᴰ}
-use Prim.Native.Nat.{ℕ, _*_, _≤_, _<_}
+use Prim.Native.Nat.{ℕ, _+_, _*_, _≤_, _<_}
 use lib.ListN.{length, getD}
 use lib.Dec.{lit<}
 use Rattle.fields.specs.Field.{Bytes}
@@ -34,6 +34,7 @@ use Rattle.node.specs.Calls.{Outcome, refused, booted, deliverNumber, de
 use Rattle.node.specs.Calls.{Reading as Told}
 use Rattle.node.specs.Faces.{outcomeBy, readingBy}
 use Rattle.node.specs.Heard.{imageLeft, accepted}
+use Rattle.node.specs.Image.{modePlace, tickPlace, sentPlace}
 use Rattle.node.specs.Image.{layout, imageSize, rowsOf, nodeOf, stateOf, fixedHeader, putState, soundImage}
 use Rattle.node.specs.Runs.{Call, life}
 use Rattle.node.specs.Sound.{SoundImage}
@@ -139,10 +140,10 @@ module _ (image : List ℕ) (port : ℕ) (frame out : List ℕ) where
   pub deliver-changes-only :
       Bytes image
       → (i : ℕ)
-      -- mode, k and last echo
-      → (i ≡ 2 → ⊥)
-      → ((8 ≤ i) × (i < 12) → ⊥)
-      → ((12 ≤ i) × (i < 16) → ⊥)
+      → (i ≡ modePlace → ⊥)
+      -- k and last echo have four bytes each
+      → ((tickPlace ≤ i) × (i < tickPlace + 4) → ⊥)
+      → ((sentPlace ≤ i) × (i < sentPlace + 4) → ⊥)
       → (InRow layout image port i → ⊥)
       → getD (delivers .image) i 0 ≡ getD image i 0
   deliver-changes-only bytes i = deliver-only layout lastTick image port frame out i bytes
@@ -210,12 +211,14 @@ module _ (image : List ℕ) where
   pub read-is-k : reads .number ≡ 0 → reads .clock ≡ nodeOf image .tick
   read-is-k = read-done layout lastTick image
 
-  -- What is written reads back the same: an image written again from what it holds is the same bytes
-  pub image-again :
-      Bytes image
-      → fixedHeader layout image ≡ true
-      → putState layout image (stateOf layout image) ≡ image
-  image-again = state-again layout image
+-- ---- What is written reads back the same: an image written again from what it holds is the same bytes
+
+pub image-again :
+    (image : List ℕ)
+    → Bytes image
+    → fixedHeader layout image ≡ true
+    → putState layout image (stateOf layout image) ≡ image
+image-again = state-again layout
 
 -- ---- The tests of the definitions, in the paper's words
 

@@ -13,7 +13,7 @@ use Rattle.forms.specs.Roster.{count}
 use Rattle.evidence.specs.Rows.{putRows}
 use Rattle.rules.specs.Delivery.{State, Delivered, delivered}
 use Rattle.rules.specs.Describe.{room, freshNode, freshRows, bootRecords}
-use Rattle.node.specs.Image.{Layout, headerSize, imageSize, rosterIn, stateOf, putClock, putState, soundImage}
+use Rattle.node.specs.Image.{Layout, headerSize, modePlace, tickPlace, imageSize, rosterIn, stateOf, putClock, putState, soundImage}
 use Rattle.rules.specs.Record.{putRecords}
 
 -- number, count of records, and every byte of image and output at exit
@@ -87,8 +87,8 @@ abbrev pub unread : ℕ → Reading
 unread number = record { number = number; clock = 0 }
 
 unfoldable pub readNumber : Layout → ℕ → List ℕ → ℕ
-readNumber L last image = cond (soundImage L last image) (cond (eqb (getD image 2 0) 0) 12 0) 8
+readNumber L last image = cond (soundImage L last image) (cond (eqb (getD image modePlace 0) 0) 12 0) 8
 
 unfoldable pub reading : Layout → ℕ → List ℕ → Reading
 reading L last image =
-    cond (eqb (readNumber L last image) 0) (record { number = 0; clock = field 4 image 8 }) (unread (readNumber L last image))
+    cond (eqb (readNumber L last image) 0) (record { number = 0; clock = field 4 image tickPlace }) (unread (readNumber L last image))

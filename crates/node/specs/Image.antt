@@ -19,6 +19,19 @@ use Rattle.rules.specs.declared.node.Node.{Node}
 abbrev pub headerSize : ℕ
 headerSize = 32
 
+-- where mode, own serial, k and last echo sent stand in it
+abbrev pub modePlace : ℕ
+modePlace = 2
+
+abbrev pub ownPlace : ℕ
+ownPlace = 4
+
+abbrev pub tickPlace : ℕ
+tickPlace = 8
+
+abbrev pub sentPlace : ℕ
+sentPlace = 12
+
 -- the window, the bytes of a mask, and header byte 3
 pub record Layout : Type 0 where
   pub window : ℕ
@@ -31,12 +44,23 @@ layout = record { window = window; masks = maskBytes; mark = 0 }
 abbrev pub imageSize : Layout → ℕ → ℕ
 imageSize L n = headerSize + n * rowSize (L .masks)
 
+-- the longest image in service
+abbrev pub mostImage : ℕ
+mostImage = imageSize layout mostLines
+
 -- ---- bytes to node
 
 -- Header: 0 n; 1 f; 2 mode; 4..7 own serial; 8..11 k; 12..15 last echo sent
 unfoldable pub nodeOf : List ℕ → Node
 nodeOf b =
-    record { lines = getD b 0 0; faults = getD b 1 0; own = field 4 b 4; mode = getD b 2 0; tick = field 4 b 8; sent = field 4 b 12 }
+    record {
+      lines = getD b 0 0;
+      faults = getD b 1 0;
+      own = field 4 b ownPlace;
+      mode = getD b modePlace 0;
+      tick = field 4 b tickPlace;
+      sent = field 4 b sentPlace;
+    }
 
 -- the rows, from behind the header on
 abbrev pub rowsOf : Layout → List ℕ → List Row
@@ -64,7 +88,7 @@ pub record Writable (p : Node) (b : List ℕ) : Type 0 where
 
 -- what a delivery changes in the header
 unfoldable pub putClock : List ℕ → Node → List ℕ
-putClock b p = putField 4 (putField 4 (putField 1 b 2 (p .mode)) 8 (p .tick)) 12 (p .sent)
+putClock b p = putField 4 (putField 4 (putField 1 b modePlace (p .mode)) tickPlace (p .tick)) sentPlace (p .sent)
 
 -- byte 3; 16..17 offset of the rows (32); 18..19 whole size; 20..31 zero
 unfoldable pub putFixed : Layout → List ℕ → ℕ → List ℕ
@@ -75,7 +99,7 @@ putFixed L b n =
 
 unfoldable pub putNode : Layout → List ℕ → Node → List ℕ
 putNode L b p =
-    putClock (putField 4 (putField 1 (putField 1 (putFixed L b (p .lines)) 0 (p .lines)) 1 (p .faults)) 4 (p .own)) p
+    putClock (putField 4 (putField 1 (putField 1 (putFixed L b (p .lines)) 0 (p .lines)) 1 (p .faults)) ownPlace (p .own)) p
 
 -- a whole image over the front of a buffer; bytes behind its size stay
 unfoldable pub putState : Layout → List ℕ → State → List ℕ

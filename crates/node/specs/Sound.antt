@@ -1,5 +1,5 @@
 -- A sound image, condition by condition in the paper's words (01, "One delivery" and row 8 of "Numbers given back"), as plain
--- propositions with no test and no count in them. proofs/Conditions.antt shows that `soundImage` decides just this.
+-- propositions: no test but `holds` of the sets, and no count. proofs/Conditions.antt shows that `soundImage` decides just this.
 use mathlib.Core.Path.{_≡_}
 use mathlib.Core.Logic.{_≢_}
 use mathlib.Core.List.{List, List·Memᴰ}

@@ -8,7 +8,7 @@ use lib.ListN.{length, getD}
 use Rattle.forms.specs.Form.{linesOf}
 use Rattle.forms.specs.Table.{Check, _when_, formChecks, frameChecks}
 use Rattle.rules.specs.Describe.{room}
-use Rattle.node.specs.Image.{Layout, imageSize, rosterIn}
+use Rattle.node.specs.Image.{Layout, modePlace, imageSize, rosterIn}
 use Rattle.node.specs.Sound.{SoundImage}
 
 -- 1 to 5 of the form, 6, 7
@@ -30,5 +30,5 @@ deliverChecks L last image port frame out =
 abbrev pub readChecks : Layout → ℕ → List ℕ → List Check
 readChecks L last image =
     8 when (SoundImage L last image → ⊥)
-    ∷ 12 when (getD image 2 0 ≡ 0)
+    ∷ 12 when (getD image modePlace 0 ≡ 0)
     ∷ []

@@ -2,7 +2,6 @@
 pub mod AtRest
 pub mod Clock
 pub mod Firing
-pub mod Modes
 pub mod Records
 pub mod Sent
 pub mod Single

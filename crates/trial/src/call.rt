@@ -6,8 +6,16 @@ use node::face::Answer;
 use node::face::pebrassola_boot;
 use node::face::pebrassola_deliver;
 use node::face::pebrassola_read;
+use node::image::MOST_IMAGE;
+use rules::node::Node;
 ghost use Prim.Native.Nat.{_≤_};
 ghost use lib.ListN.{length};
+
+// Bytes of the image buffer.
+pub(crate) const IMAGE: usize = MOST_IMAGE + 32;
+
+// Bytes of the output.
+pub(crate) const OUT: usize = Node::ROOM + 8;
 
 // The kind of a step that boots; the other that comes here delivers.
 const BOOT: u32 = 5;
@@ -29,15 +37,15 @@ fn lend(step: Step, data: &[u8], image: &mut [u8], out: &mut [u8]) -> Answer
 }
 
 // Boots or delivers with a fresh output, and prints what came of it.
-pub(crate) fn run(step: Step, data: &[u8], image: &mut [u8; 960]) -> bool {
-    if step.size > 960 {
+pub(crate) fn run(step: Step, data: &[u8], image: &mut [u8; IMAGE]) -> bool {
+    if step.size > IMAGE {
         return false;
     }
-    if step.room > 200 {
+    if step.room > OUT {
         return false;
     }
     let old = *image;
-    let mut out = [165u8; 200];
+    let mut out = [165u8; OUT];
     let answer = lend(step, data, image, &mut out);
     show::answer(step, answer, &old, image, &out);
     true

@@ -1,6 +1,9 @@
 // What a line of output is made of.
+use crate::call::IMAGE;
+use crate::call::OUT;
 use crate::step::Step;
 use node::face::Answer;
+use rules::record::RECORD;
 
 fn number(n: u32) {
     io::write_all(1, b" ");
@@ -69,17 +72,17 @@ fn kept(old: &[u8], new: &[u8], from: usize, to: usize) -> bool {
 // Whether all is as it was but the bytes of the image that the line shows, which the model's line is held against, and those of
 // the output that may change.
 fn same(step: Step, old: &[u8], image: &[u8], out: &[u8]) -> bool {
-    let fresh = [165u8; 200];
+    let fresh = [165u8; OUT];
     kept(old, image, step.front, step.from)
-        && kept(old, image, step.to, 960)
-        && kept(&fresh, out, step.written, 200)
+        && kept(old, image, step.to, IMAGE)
+        && kept(&fresh, out, step.written, OUT)
 }
 
 // Number, records, the bytes of the image that the step names, and whether the rest stayed.
 pub(crate) fn answer(step: Step, answer: Answer, old: &[u8], image: &[u8], out: &[u8]) {
     pair(answer.number, answer.records);
     io::write_all(1, b" |");
-    bytes(out, 0, 12 * (answer.records as usize));
+    bytes(out, 0, RECORD * (answer.records as usize));
     part(image, 0, step.front);
     part(image, step.from, step.to);
     if same(step, old, image, out) {

@@ -1,5 +1,6 @@
 // A step: a head of 20 bytes, then its data, which is a text, an image, a form or a frame.
 use crate::call;
+use crate::call::IMAGE;
 use crate::show;
 use fields::field::half;
 use fields::field::word;
@@ -44,7 +45,7 @@ fn hand_in(data: &[u8], image: &mut [u8]) -> bool {
 }
 
 // Makes a step: a text written, an image handed in or shown, a read, a boot, a delivery; false where it is none of these.
-fn make(step: Step, data: &[u8], image: &mut [u8; 960]) -> bool {
+fn make(step: Step, data: &[u8], image: &mut [u8; IMAGE]) -> bool {
     let kind = step.kind;
     match kind {
         1 => io::write_all(1, data),
@@ -57,7 +58,7 @@ fn make(step: Step, data: &[u8], image: &mut [u8; 960]) -> bool {
 }
 
 // Takes the first step; the bytes that it has, or 0 where it is none or cut short.
-pub(crate) fn take(b: &[u8], image: &mut [u8; 960]) -> usize
+pub(crate) fn take(b: &[u8], image: &mut [u8; IMAGE]) -> usize
     ensures { λ r. ⌜ r ≤ length (now (b .entry)) ⌝ }
 {
     if b.len() < 20 {

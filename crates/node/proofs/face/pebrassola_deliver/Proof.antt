@@ -6,6 +6,8 @@ use mathlib.Core.Path.{_≡_, sym, _∙_}
 use native.Mathlib.Omega.{arith}
 use denote.Ref.{now}
 use lib.ListN.{length, getD}
+use lib.Dec.{lit<}
+use Prim.Native.Nat.{_≤_}
 use borrow.Author.Tests.{ne-eqb}
 use Rattle.fields.specs.Field.{field}
 use Rattle.forms.specs.Frame.{frameSize}
@@ -13,7 +15,7 @@ use Rattle.node.specs.Calls.{deliverNumber, deliveryOf, imageAfter, deli
 use Rattle.rules.specs.Describe.{window, lastTick}
 use Rattle.node.specs.Image.{layout, headerSize, nodeOf, stateOf}
 use Rattle.rules.specs.Steps.{DeliveredAs}
-use Rattle.rules.proofs.Modes.{InMode, mode-kept, delivered-keeps}
+use Rattle.rules.proofs.Clock.{delivered-ordered}
 use Rattle.node.proofs.Sound.{SoundBytes, sound-bytes, sound-rows, sound-once}
 use Rattle.node.proofs.Taken.{Taken, deliver-taken, frame-whole}
 use Rattle.node.proofs.face.pebrassola_deliver.Statement.{statement}
@@ -89,15 +91,16 @@ done c =
     rw (node .read-node .ensures, node .before .before .word .ensures) at (c .deliver .ensures)
 
 -- the mode is still 0 or 1
-mode : (c : tie.After-deliver) → InMode (c .deliver .result .node)
+mode : (c : tie.After-deliver) → c .deliver .result .node .mode ≤ 1
 unfolding deliveryOf
 mode c =
     let passed = c .before .before .before .before .before .before .before in
     let a = start passed .args in
     let frame = now (a .frame) in
+    let s = sound passed .node in
     rw (done c .node)
-    (delivered-keeps InMode mode-kept window lastTick (stateOf layout (now (a .image))) (a .port) (getD frame 0 0) (field 4 frame 4)
-    (sound passed .node .mode))
+    (delivered-ordered window lastTick (stateOf layout (now (a .image))) (a .port) (getD frame 0 0) (field 4 frame 4) (lit< tt) (s .sets)
+    (frame-whole lastTick frame (taken passed .shape) .tick) (record { mode = s .mode; sent = s .sent; tick = s .tick }) .mode)
 
 put-clock-requires : tie.Need-put-clock-requires
 put-clock-requires c κs =

@@ -4,7 +4,6 @@ use mathlib.Core.Path.{_≡_, refl, sym, ap, _∙_}
 use mathlib.Core.List.{List}
 use Prim.Native.Nat.{ℕ}
 use mathlib.Core.Bool.{cond}
-use borrow.Author.Tests.{eqb-false}
 use lib.Dec.{eqb}
 use Rattle.forms.specs.Number.{numberOf, verdictOf}
 use Rattle.forms.specs.Form.{FormTold, WriteTold, writtenBy}
@@ -46,34 +45,64 @@ back Room = refl
 back Shape = refl
 back Late = refl
 
-same-case : (a b : Refusal) → numberOf a ≡ numberOf b → a ≡ b
-same-case a b e = sym (back a) ∙ ap caseOf e ∙ back b
+-- ---- an answer that can be had again from what is told is the only one that tells it
 
--- no refusal tells number 0
-never : (why : Refusal) → numberOf why ≡ 0 → ⊥
-never why = eqb-false (numberOf why) 0 (refusal why)
+pub one-answer : {A T : Type 0} (tell : A → T) (answerOf : T → A) → ((a : A) → answerOf (tell a) ≡ a) → (a b : A) → tell a ≡ tell b → a ≡ b
+one-answer tell answerOf is a b e = sym (is a) ∙ ap answerOf e ∙ is b
+
+-- and of a writer the output too
+pub one-write : {A : Type 0} (tell : A → List ℕ → WriteTold) (answerOf : WriteTold → A) →
+    ((a : A) (out : List ℕ) → (answerOf (tell a out) ≡ a) × (tell a out .out ≡ out)) →
+    (a b : A) (out other : List ℕ) → tell a out ≡ tell b other → (a ≡ b) × (out ≡ other)
+one-write tell answerOf is a b out other e =
+    (sym (is a out .0) ∙ ap answerOf e ∙ is b other .0, sym (is a out .1) ∙ ap (λ (t : WriteTold). t .out) e ∙ is b other .1)
+
+-- ---- the roster's judge
+
+verdictFor : ℕ → Verdict
+verdictFor n = cond (eqb n 0) Sound (Broken (caseOf n))
+
+verdict-is : (a : Verdict) → verdictFor (verdictOf a) ≡ a
+unfolding verdictFor
+verdict-is Sound = refl
+verdict-is (Broken why) = rw (refusal why) (ap Broken (back why))
 
 pub one-verdict : (a b : Verdict) → verdictOf a ≡ verdictOf b → a ≡ b
-one-verdict Sound Sound e = refl
-one-verdict Sound (Broken w) e = absurd (never w (sym e))
-one-verdict (Broken v) Sound e = absurd (never v e)
-one-verdict (Broken v) (Broken w) e = ap Broken (same-case v w e)
+one-verdict = one-answer verdictOf verdictFor verdict-is
+
+-- ---- the readers
+
+formOf : FormTold → FormRead
+formOf t = cond (eqb (t .number) 0) (form.Taken (record { lines = t .lines; faults = t .faults; own = t .own })) (form.Refused (caseOf (t .number)))
+
+form-is : (a : FormRead) → formOf (formBy a) ≡ a
+unfolding formOf
+form-is (form.Taken x) = refl
+form-is (form.Refused why) = rw (refusal why) (ap form.Refused (back why))
 
 pub one-form : (a b : FormRead) → formBy a ≡ formBy b → a ≡ b
-one-form (form.Taken x) (form.Taken y) e = λ d. form.Taken (record { lines = e d .lines; faults = e d .faults; own = e d .own })
-one-form (form.Taken x) (form.Refused w) e = absurd (never w (sym (ap (λ (t : FormTold). t .number) e)))
-one-form (form.Refused v) (form.Taken y) e = absurd (never v (ap (λ (t : FormTold). t .number) e))
-one-form (form.Refused v) (form.Refused w) e = ap form.Refused (same-case v w (ap (λ (t : FormTold). t .number) e))
+one-form = one-answer formBy formOf form-is
+
+frameOf : FrameTold → FrameRead
+frameOf t = cond (eqb (t .number) 0) (frame.Taken (record { kind = t .kind; tick = t .tick })) (frame.Refused (caseOf (t .number)))
+
+frame-is : (a : FrameRead) → frameOf (frameBy a) ≡ a
+unfolding frameOf
+frame-is (frame.Taken x) = refl
+frame-is (frame.Refused why) = rw (refusal why) (ap frame.Refused (back why))
 
 pub one-frame : (a b : FrameRead) → frameBy a ≡ frameBy b → a ≡ b
-one-frame (frame.Taken x) (frame.Taken y) e = λ d. frame.Taken (record { kind = e d .kind; tick = e d .tick })
-one-frame (frame.Taken x) (frame.Refused w) e = absurd (never w (sym (ap (λ (t : FrameTold). t .number) e)))
-one-frame (frame.Refused v) (frame.Taken y) e = absurd (never v (ap (λ (t : FrameTold). t .number) e))
-one-frame (frame.Refused v) (frame.Refused w) e = ap frame.Refused (same-case v w (ap (λ (t : FrameTold). t .number) e))
+one-frame = one-answer frameBy frameOf frame-is
+
+-- ---- the writers
+
+writtenOf : WriteTold → Written
+writtenOf t = cond (eqb (t .number) 0) (Wrote (t .written)) (NotWritten (caseOf (t .number)))
+
+written-is : (a : Written) (out : List ℕ) → (writtenOf (writtenBy a out) ≡ a) × (writtenBy a out .out ≡ out)
+unfolding writtenOf
+written-is (Wrote n) out = (refl, refl)
+written-is (NotWritten why) out = (rw (refusal why) (ap NotWritten (back why)), refl)
 
 pub one-written : (a b : Written) (out other : List ℕ) → writtenBy a out ≡ writtenBy b other → (a ≡ b) × (out ≡ other)
-one-written (Wrote m) (Wrote n) out other e = (ap (λ (t : WriteTold). Wrote (t .written)) e, ap (λ (t : WriteTold). t .out) e)
-one-written (Wrote m) (NotWritten w) out other e = absurd (never w (sym (ap (λ (t : WriteTold). t .number) e)))
-one-written (NotWritten v) (Wrote n) out other e = absurd (never v (ap (λ (t : WriteTold). t .number) e))
-one-written (NotWritten v) (NotWritten w) out other e =
-    (ap NotWritten (same-case v w (ap (λ (t : WriteTold). t .number) e)), ap (λ (t : WriteTold). t .out) e)
+one-written = one-write writtenBy writtenOf written-is

@@ -5,5 +5,6 @@ pub mod Lays
 pub mod Lines
 pub mod LogTrip
 pub mod Logs
+pub mod Meaning
 pub mod Puts
 pub mod Single

@@ -1,8 +1,7 @@
 -- What the log's writer wrote its reader gives back, form and events too, and what the reader took the writer writes again byte for
--- byte; bytes behind what is written stay, and a refusal changes no byte. Number 13 is given exactly when the paper says, and 7 after it.
+-- byte; bytes behind what is written stay, and a refusal changes no byte.
 -- Assumes nothing.
 use mathlib.Core.Path.{_≡_, refl, sym, ap, ap₂, _∙_}
-use mathlib.Core.Logic.{_↔_, inl, inr}
 use mathlib.Core.List.{List, _++_, append-assoc}
 use Prim.Native.Nat.{ℕ, _+_, _-_, _*_, _/_, _≤_, _<_}
 use native.Mathlib.Omega.{arith}
@@ -10,14 +9,14 @@ use lib.ListN.{length, getD, take, drop, length-append, length-drop, take-append
 use lib.Seq.{length-take-le, getD-take, take-at, drop-at, take-add}
 use Rattle.fields.specs.Field.{field, putField, Bytes}
 use Rattle.forms.specs.Form.{WriteTold, doneWrite}
-use Rattle.forms.specs.Table.{Says}
 use Rattle.fields.proofs.Fields.{drop-put, field-same, field-put, field-put-other, length-put, take-put-field}
-use Rattle.forms.proofs.Meaning.{less, in-front, none, past, told, write-number}
-use Rattle.log.specs.Log.{formPlace, eventSize, countOf, formAt, eventsAt, formOf, eventsOf, broken, logNumber, LogTold, logTold}
-use Rattle.log.specs.Log.{writeNumber, lay, logSize, putHead, putLog, logWritten}
-use Rattle.log.specs.Table.{Laid, Fit, logChecks, logWriterChecks}
+use Rattle.forms.proofs.Meaning.{told}
+use Rattle.log.specs.Log.{formPlace, eventSize, countOf, formAt, eventsAt, formOf, eventsOf, logNumber, LogTold, logTold}
+use Rattle.log.specs.Log.{lay, logSize, putHead, putLog, logWritten}
+use Rattle.log.specs.Table.{Laid, Fit}
+use Rattle.log.proofs.Meaning.{log-taken, log-told}
 use Rattle.log.proofs.Lays.{take-lay, drop-lay, length-lay}
-use Rattle.log.proofs.Logs.{Judged, log-judged, write-judged, judged-decides, told-laid, told-broken, written-fit}
+use Rattle.log.proofs.Logs.{told-laid, written-fit}
 use Rattle.log.proofs.Logs.{Answer, wrote, refused, answer}
 
 -- ---- the bytes that the writer leaves
@@ -219,19 +218,6 @@ module _ (b : List ℕ) (l : Laid b) where
       (take-put-field 4 _ b 4 h (simp length-put (omega arith)) (omega arith)
       (take-put-field 4 out b 0 h (omega arith) (omega arith) refl))
 
--- the reader takes a log exactly where its layout holds
-pub log-taken : (b : List ℕ) → (logTold b .number ≡ 0) ↔ Laid b
-log-taken b = go (log-judged b)
-  where
-    go : Judged (broken b) (Laid b) → (logTold b .number ≡ 0) ↔ Laid b
-    go (inl j) = (λ _. j .1, λ l. ap (λ (t : LogTold). t .number) (told-laid b l))
-    go (inr j) = (λ e. absurd (omega (arith, ap (λ (t : LogTold). t .number) (told-broken b (j .1)))), λ l. absurd (j .1 l))
-
--- the log reader tells `logNumber`
-log-told : (b : List ℕ) → logTold b .number ≡ logNumber b
-unfolding logTold
-log-told b = told (λ (t : LogTold). t .number) _ _ (logNumber b) refl refl
-
 -- what the reader took, the writer writes byte for byte, over the front of the output
 pub log-written-again : (b out : List ℕ) → Bytes b → logNumber b ≡ 0 → length b ≤ length out →
     logWritten (formOf b) (eventsOf b) out ≡ doneWrite (length b) (b ++ drop (length b) out)
@@ -260,27 +246,3 @@ log-written-again b out h e p =
 
     behind : drop (logSize form events) (putLog out form events) ≡ drop (length b) out
     behind = drop-log form events out room ∙ ap (λ (n : ℕ). drop n out) size
-
--- ---- the numbers
-
--- the log reader's number is 13 where the layout is broken
-pub log-says : (b : List ℕ) → Says (logTold b .number) (logChecks b)
-unfolding logNumber
-log-says b = rw (log-told b) (in-front 13 (judged-decides (log-judged b)) (omega arith) none)
-
--- the log writer's number is 13 for the parts, and 7 last
-pub log-writer-says : (form events out : List ℕ) → Says (logWritten form events out .number) (logWriterChecks form events out)
-unfolding logWritten writeNumber
-log-writer-says form events out =
-    rw (write-number, past)
-    (in-front 13 (judged-decides (write-judged form events)) (omega arith)
-    (in-front 7 (less (length out) (logSize form events)) (omega arith) none))
-
--- ---- single rows
-
--- each row is one instance of these; so 13 of the reader and of the writer
-row-13 : (b : List ℕ) → (logTold b .number ≡ 13) ↔ (Laid b → ⊥)
-row-13 b = log-says b .exactly 13
-
-writer-row-13 : (form events out : List ℕ) → (logWritten form events out .number ≡ 13) ↔ (Fit form events → ⊥)
-writer-row-13 form events out = log-writer-says form events out .exactly 13

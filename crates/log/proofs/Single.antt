@@ -1,12 +1,13 @@
 -- Two outcomes that a contract of the log's reader, its writer or the player allows coincide: what is told determines the answer, and
 -- of a writer every byte of the output.
 -- Assumes nothing.
-use mathlib.Core.Path.{_≡_, refl, sym, ap, _∙_}
+use mathlib.Core.Path.{_≡_, refl}
 use mathlib.Core.List.{List}
 use mathlib.Core.Bool.{cond}
 use Prim.Native.Nat.{ℕ}
 use lib.Dec.{eqb}
 use Rattle.forms.specs.Form.{WriteTold}
+use Rattle.forms.proofs.Single.{one-answer, one-write}
 use Rattle.log.specs.Log.{LogTold, toldBy, writtenBy}
 use Rattle.log.specs.Played.{playedBy}
 use Rattle.log.specs.declared.file.LogRead.{LogRead}
@@ -28,16 +29,9 @@ read-is (Taken log) = refl
 read-is Refused = refl
 
 pub one-log : (a b : LogRead) → toldBy a ≡ toldBy b → a ≡ b
-one-log a b e = sym (read-is a) ∙ ap readOf e ∙ read-is b
+one-log = one-answer toldBy readOf read-is
 
 -- ---- the writers
-
--- a writer whose answer and output can be had again from what is told
-one-write : {A : Type 0} (tell : A → List ℕ → WriteTold) (answerOf : WriteTold → A) →
-    ((a : A) (out : List ℕ) → (answerOf (tell a out) ≡ a) × (tell a out .out ≡ out)) →
-    (a b : A) (out other : List ℕ) → tell a out ≡ tell b other → (a ≡ b) × (out ≡ other)
-one-write tell answerOf is a b out other e =
-    (sym (is a out .0) ∙ ap answerOf e ∙ is b other .0, sym (is a out .1) ∙ ap (λ (t : WriteTold). t .out) e ∙ is b other .1)
 
 writtenOf : WriteTold → LogWritten
 writtenOf told = cond (eqb (told .number) 0) (write.Wrote (told .written)) (cond (eqb (told .number) 7) write.NoRoom write.Broken)

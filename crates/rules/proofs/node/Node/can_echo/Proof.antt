@@ -2,11 +2,12 @@
 -- Assumes nothing.
 use borrow.Author.Needs.{needs}
 use mathlib.Core.Path.{_≡_}
-use mathlib.Core.Bool.{false, and-false}
-use Prim.Native.Nat.{_+_}
+use mathlib.Core.Bool.{true, false, _&&_, and-false}
+use Prim.Native.Nat.{ℕ, _+_, _≤_, _<_}
 use native.Mathlib.Omega.{arith}
 use borrow.Author.Tests.{lt-ltb, le-ltb, le-leb, lt-leb}
 use denote.Ref.{now}
+use lib.Dec.{ltb, leb}
 use Rattle.rules.specs.Describe.{window}
 use Rattle.rules.specs.Rules.{canR1}
 use Rattle.rules.specs.Steps.{rowsFrom}
@@ -25,13 +26,16 @@ add-enough c = search needs
 count-holders-requires : tie.Need-count-holders-requires
 count-holders-requires c κs = search needs
 
+-- the test of R1 and of R2 passes
+held-unsent : (enough held sent k : ℕ) → enough ≤ held → sent < k → (leb enough held && ltb sent k) ≡ true
+held-unsent enough held sent k p q = rw (le-leb enough held p, lt-ltb sent k q)
+
 returns : tie.Need-returns
 returns c =
     let p = c .before .before .before .before .before .before .before .args .self in
     rw (
       ← c .before .count-holders .ensures .0,
-      le-leb (p .faults + 1) (c .before .count-holders .result) (omega arith),
-      lt-ltb (p .sent) (p .tick) (omega arith),
+      held-unsent (p .faults + 1) (c .before .count-holders .result) (p .sent) (p .tick) (omega arith) (omega arith),
     )
 
 count-holders-requires-2 : tie.Need-count-holders-requires-2
@@ -51,8 +55,7 @@ returns-2 c =
     rw (
       no-init (c .before .before),
       ← c .before .count-holders2 .ensures .0,
-      le-leb (p .faults + 1) (c .before .count-holders2 .result) (omega arith),
-      lt-ltb (p .sent) (p .tick) (omega arith),
+      held-unsent (p .faults + 1) (c .before .count-holders2 .result) (p .sent) (p .tick) (omega arith) (omega arith),
     )
 
 returns-3 : tie.Need-returns-3

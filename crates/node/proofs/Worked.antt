@@ -126,17 +126,22 @@ settled-examples :
     play story boots
     ≡ record {
       lines =
+          -- W1 to W4
           line (all ECHO 0 []) 0 0
           ∷ line [] 0 0
           ∷ line (to 22 ECHO 0 []) 0 0
           ∷ line (to 33 ECHO 0 (all INIT 1 [])) 1 0
+          -- W5, W6
           ∷ line [] 1 0
           ∷ line (all ECHO 1 []) 1 1
+          -- W7, two deliveries
           ∷ line [] 1 1
           ∷ line [] 1 1
+          -- W8, W9
           ∷ line (all ECHO 4 []) 4 1
           ∷ line (all INIT 5 (all ECHO 5 [])) 5 1
           ∷ [];
+      -- W10
       with-69 = 69 ∷ 68 ∷ 67 ∷ 6 ∷ [];
       with-70 = 70 ∷ 69 ∷ 68 ∷ [];
     }

@@ -73,7 +73,9 @@ one-verdict = one-answer verdictOf verdictFor verdict-is
 -- ---- the readers
 
 formOf : FormTold → FormRead
-formOf t = cond (eqb (t .number) 0) (form.Taken (record { lines = t .lines; faults = t .faults; own = t .own })) (form.Refused (caseOf (t .number)))
+formOf t =
+    let taken = form.Taken (record { lines = t .lines; faults = t .faults; own = t .own }) in
+    cond (eqb (t .number) 0) taken (form.Refused (caseOf (t .number)))
 
 form-is : (a : FormRead) → formOf (formBy a) ≡ a
 unfolding formOf

@@ -17,7 +17,8 @@ use Rattle.evidence.specs.Serials.{serialsIn}
 use Rattle.evidence.proofs.Growth.{AllKept, all-kept, all-kept-test}
 use Rattle.evidence.proofs.Layouts.{serials-of-rows}
 use Rattle.rules.specs.Delivery.{State}
-use Rattle.node.specs.Image.{Layout, ownPlace, layout, headerSize, imageSize, rosterIn, nodeOf, stateOf, fixedHeader, soundState, soundImage}
+use Rattle.node.specs.Image.{Layout, ownPlace, layout, headerSize, imageSize, rosterIn}
+use Rattle.node.specs.Image.{nodeOf, stateOf, fixedHeader, soundState, soundImage}
 use Rattle.rules.specs.Rules.{firstRule}
 use Rattle.rules.specs.declared.node.Rule.the-variants.{Rest}
 use Rattle.rules.proofs.Firing.{rest-true}

@@ -57,54 +57,57 @@ pub one-write : {A : Type 0} (tell : A → List ℕ → WriteTold) (answerOf : W
 one-write tell answerOf is a b out other e =
     (sym (is a out .0) ∙ ap answerOf e ∙ is b other .0, sym (is a out .1) ∙ ap (λ (t : WriteTold). t .out) e ∙ is b other .1)
 
--- ---- the roster's judge
+-- ---- answers that hold a refusal
 
-verdictFor : ℕ → Verdict
-verdictFor n = cond (eqb n 0) Sound (Broken (caseOf n))
+-- the answer that tells t: what is taken, or the case that the number stands for
+answerTo : {A T : Type 0} → (T → ℕ) → (T → A) → (Refusal → A) → T → A
+answerTo number taken refused t = cond (eqb (number t) 0) (taken t) (refused (caseOf (number t)))
 
-verdict-is : (a : Verdict) → verdictFor (verdictOf a) ≡ a
-unfolding verdictFor
-verdict-is Sound = refl
-verdict-is (Broken why) = rw (refusal why) (ap Broken (back why))
+-- a refusal is had again
+refused-again : {A T : Type 0} (number : T → ℕ) (taken : T → A) (refused : Refusal → A) (t : T) (why : Refusal) →
+    number t ≡ numberOf why →
+    answerTo number taken refused t ≡ refused why
+unfolding answerTo
+refused-again number taken refused t why e = rw (e, refusal why) (ap refused (back why))
+
+judged : (a : Verdict) → answerTo (λ n. n) (λ n. Sound) Broken (verdictOf a) ≡ a
+unfolding answerTo
+judged Sound = refl
+judged (Broken why) = refused-again (λ n. n) (λ n. Sound) Broken (numberOf why) why refl
 
 pub one-verdict : (a b : Verdict) → verdictOf a ≡ verdictOf b → a ≡ b
-one-verdict = one-answer verdictOf verdictFor verdict-is
-
--- ---- the readers
+one-verdict = one-answer verdictOf (answerTo (λ n. n) (λ n. Sound) Broken) judged
 
 formOf : FormTold → FormRead
-formOf t =
-    let taken = form.Taken (record { lines = t .lines; faults = t .faults; own = t .own }) in
-    cond (eqb (t .number) 0) taken (form.Refused (caseOf (t .number)))
+formOf t = form.Taken (record { lines = t .lines; faults = t .faults; own = t .own })
 
-form-is : (a : FormRead) → formOf (formBy a) ≡ a
-unfolding formOf
-form-is (form.Taken x) = refl
-form-is (form.Refused why) = rw (refusal why) (ap form.Refused (back why))
+form-read : (a : FormRead) → answerTo (λ t. t .number) formOf form.Refused (formBy a) ≡ a
+unfolding answerTo formOf
+form-read (form.Taken x) = refl
+form-read (form.Refused why) = refused-again (λ t. t .number) formOf form.Refused (formBy (form.Refused why)) why refl
 
 pub one-form : (a b : FormRead) → formBy a ≡ formBy b → a ≡ b
-one-form = one-answer formBy formOf form-is
+one-form = one-answer formBy (answerTo (λ t. t .number) formOf form.Refused) form-read
 
 frameOf : FrameTold → FrameRead
-frameOf t = cond (eqb (t .number) 0) (frame.Taken (record { kind = t .kind; tick = t .tick })) (frame.Refused (caseOf (t .number)))
+frameOf t = frame.Taken (record { kind = t .kind; tick = t .tick })
 
-frame-is : (a : FrameRead) → frameOf (frameBy a) ≡ a
-unfolding frameOf
-frame-is (frame.Taken x) = refl
-frame-is (frame.Refused why) = rw (refusal why) (ap frame.Refused (back why))
+frame-read : (a : FrameRead) → answerTo (λ t. t .number) frameOf frame.Refused (frameBy a) ≡ a
+unfolding answerTo frameOf
+frame-read (frame.Taken x) = refl
+frame-read (frame.Refused why) = refused-again (λ t. t .number) frameOf frame.Refused (frameBy (frame.Refused why)) why refl
 
 pub one-frame : (a b : FrameRead) → frameBy a ≡ frameBy b → a ≡ b
-one-frame = one-answer frameBy frameOf frame-is
+one-frame = one-answer frameBy (answerTo (λ t. t .number) frameOf frame.Refused) frame-read
 
--- ---- the writers
+wroteOf : WriteTold → Written
+wroteOf t = Wrote (t .written)
 
-writtenOf : WriteTold → Written
-writtenOf t = cond (eqb (t .number) 0) (Wrote (t .written)) (NotWritten (caseOf (t .number)))
-
-written-is : (a : Written) (out : List ℕ) → (writtenOf (writtenBy a out) ≡ a) × (writtenBy a out .out ≡ out)
-unfolding writtenOf
-written-is (Wrote n) out = (refl, refl)
-written-is (NotWritten why) out = (rw (refusal why) (ap NotWritten (back why)), refl)
+written : (a : Written) (out : List ℕ) →
+    (answerTo (λ t. t .number) wroteOf NotWritten (writtenBy a out) ≡ a) × (writtenBy a out .out ≡ out)
+unfolding answerTo wroteOf
+written (Wrote n) out = (refl, refl)
+written (NotWritten why) out = (refused-again (λ t. t .number) wroteOf NotWritten (writtenBy (NotWritten why) out) why refl, refl)
 
 pub one-written : (a b : Written) (out other : List ℕ) → writtenBy a out ≡ writtenBy b other → (a ≡ b) × (out ≡ other)
-one-written = one-write writtenBy writtenOf written-is
+one-written = one-write writtenBy (answerTo (λ t. t .number) wroteOf NotWritten) written

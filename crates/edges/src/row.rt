@@ -6,7 +6,7 @@ use evidence::rows::ROW;
 use evidence::rows::credit_row;
 use evidence::rows::find_row;
 use fields::field::word;
-use forms::roster::count_word;
+use forms::column::count_word;
 
 // The rows, and their bytes.
 const LINES: usize = 4;

@@ -13,7 +13,7 @@ use lib.Dec.{eqb}
 use Rattle.fields.specs.Field.{field, putField, words, Bytes}
 use Rattle.fields.specs.Kind.{ECHO}
 use Rattle.fields.proofs.Fields.{put-field}
-use Rattle.forms.specs.Roster.{count}
+use Rattle.forms.specs.Column.{count}
 use Rattle.sets.specs.Ticks.{Held, add}
 use Rattle.evidence.specs.Holders.{oneOn, placeOf}
 use Rattle.evidence.specs.Rows.{Row, setSize, rowSize, echoPlace, initPlace, setPlace}

@@ -9,7 +9,7 @@ use Prim.Native.Nat.{ℕ, suc, _+_, _≤_}
 use native.Mathlib.Decide.{decLt, ℕ-discrete}
 use native.Mathlib.Omega.{arith}
 use lib.ListN.{length}
-use Rattle.forms.specs.Roster.{count, twins}
+use Rattle.forms.specs.Column.{count, twins}
 use Rattle.forms.specs.Table.{Twice}
 use Rattle.forms.proofs.Meaning.{member-says, twice-says}
 use Rattle.sets.specs.Ticks.{holds}

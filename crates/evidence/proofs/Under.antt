@@ -9,7 +9,7 @@ use native.Mathlib.Omega.{arith}
 use borrow.Author.Tests.{eqb-true}
 use lib.Dec.{eqb}
 use Rattle.fields.specs.Kind.{INIT, ECHO}
-use Rattle.forms.specs.Roster.{count}
+use Rattle.forms.specs.Column.{count}
 use Rattle.sets.specs.History.{Sent, hear}
 use Rattle.sets.specs.Ticks.{empty}
 use Rattle.sets.proofs.Members.{Proper, proper-facts, proper-empty}

@@ -3,7 +3,7 @@ use Prim.Native.Nat.{ℕ, _+_, _*_, _≤_, _<_}
 use mathlib.Core.List.{List}
 use lib.ListN.{length}
 use Rattle.fields.specs.Field.{words}
-use Rattle.forms.specs.Roster.{count}
+use Rattle.forms.specs.Column.{count}
 use Rattle.sets.specs.Sets.{maskBits}
 use Rattle.evidence.specs.Rows.{rowBytes}
 

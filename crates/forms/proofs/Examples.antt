@@ -6,7 +6,8 @@ use mathlib.Core.List.{List, [], _∷_, List·Permᴰ·swap}
 use lib.ListN.{replicate}
 use Rattle.fields.specs.Field.{field, putField, words, putWords}
 use Rattle.fields.specs.Kind.{ECHO}
-use Rattle.forms.specs.Roster.{count, twins, rosterNumber}
+use Rattle.forms.specs.Column.{count, twins}
+use Rattle.forms.specs.Roster.{rosterNumber}
 use Rattle.forms.specs.Form.{Reordered, formNumber, formTold, putForm, formWritten}
 use Rattle.forms.specs.Frame.{frameNumber, frameTold, putFrame, frameWritten}
 

@@ -1,4 +1,5 @@
 -- The laws and theorems of `forms` that belong to no single function.
+pub mod Columns
 mod Examples
 pub mod Frames
 pub mod Meaning

@@ -15,7 +15,8 @@ use borrow.Author.Tests.{ltb-true, lt-ltb, eqb-true, eqb-false, eq-eqb}
 use Rattle.forms.specs.Number.{orElse}
 use Rattle.fields.specs.Field.{field}
 use Rattle.fields.specs.Kind.{INIT, ECHO}
-use Rattle.forms.specs.Roster.{mostLines, count, twins, rosterNumber}
+use Rattle.forms.specs.Column.{count, twins}
+use Rattle.forms.specs.Roster.{mostLines, rosterNumber}
 use Rattle.forms.specs.Form.{serialsPlace, formSize, linesOf, faultsOf, ownOf, serialsOf, misplaced, formNumber}
 use Rattle.forms.specs.Form.{FormTold, formTold, WriteTold, writeTold, formWritten}
 use Rattle.forms.specs.Frame.{frameSize, badKind, misshapen, FrameTold, frameNumber, frameTold, frameWritten}

@@ -12,7 +12,8 @@ use lib.Seq.{getD-take}
 use lib.Dec.{eqb}
 use borrow.Author.Tests.{eq-eqb, ne-eqb}
 use Rattle.fields.specs.Field.{field, words}
-use Rattle.forms.specs.Roster.{count, twins, rosterNumber}
+use Rattle.forms.specs.Column.{count, twins}
+use Rattle.forms.specs.Roster.{rosterNumber}
 use Rattle.forms.specs.Form.{serialsPlace, formSize, linesOf, faultsOf, ownOf, serialsOf, linesIn, Reordered}
 use Rattle.forms.specs.Form.{misplaced, formNumber, formTold, formWritten}
 use Rattle.fields.proofs.Fields.{field-same}

@@ -1,4 +1,4 @@
--- Laws of a roster, over a column of serials: the counts line by line, the roster's number case by case, and a roster in order.
+-- Laws of a roster: its number case by case, and a roster in order.
 -- Assumes nothing.
 use mathlib.Core.Path.{_≡_, refl, ap, _∙_}
 use mathlib.Core.List.{List, [], _∷_}
@@ -11,41 +11,11 @@ use lib.ListN.{length}
 use lib.Dec.{ltb, eqb}
 use borrow.Author.Tests.{lt-ltb, le-ltb, ltb-false, eqb-true, eq-eqb, ne-eqb}
 use Rattle.fields.specs.Field.{field, words}
-use Rattle.forms.specs.Roster.{mostLines, count, twins, rosterNumber}
+use Rattle.forms.specs.Column.{count, twins}
+use Rattle.forms.specs.Roster.{mostLines, rosterNumber}
 use Rattle.forms.specs.Table.{Twice}
 use Rattle.fields.proofs.Words.{words-step, words-end}
 use Rattle.forms.proofs.Meaning.{twice-says, roster-says}
-
--- ---- counts
-
-pub count-end : (x n s : ℕ) (b : List ℕ) (i : ℕ) → n ≤ 0 → count x (words n s b i) ≡ 0
-unfolding count
-count-end x n s b i p = ap (count x) (words-end n s b i p)
-
-module _ (x n s : ℕ) (b : List ℕ) (i : ℕ) (p : 0 < n) where
-  count-step : count x (words n s b i) ≡ cond (eqb (field 4 b i) x) 1 0 + count x (words (n - 1) s b (i + s))
-  unfolding count
-  count-step = ap (count x) (words-step n s b i p)
-
-  -- the first line holds x
-  pub count-here : field 4 b i ≡ x → count x (words n s b i) ≡ 1 + count x (words (n - 1) s b (i + s))
-  count-here e = rw eq-eqb at count-step
-
-  -- the first line holds something else
-  pub count-past : (field 4 b i ≡ x → ⊥) → count x (words n s b i) ≡ count x (words (n - 1) s b (i + s))
-  count-past ne = rw ne-eqb at count-step ∙ omega arith
-
--- ---- twins
-
-pub twins-end : (n s : ℕ) (b : List ℕ) (i : ℕ) → n ≤ 0 → twins (words n s b i) ≡ 0
-unfolding twins
-twins-end n s b i p = ap twins (words-end n s b i p)
-
--- the first line, which holds x, makes a twin of each line behind it that holds x
-pub twins-step : (n s : ℕ) (b : List ℕ) (i x : ℕ) → 0 < n → x ≡ field 4 b i →
-    twins (words n s b i) ≡ count x (words (n - 1) s b (i + s)) + twins (words (n - 1) s b (i + s))
-unfolding twins
-twins-step n s b i x p e = rw e (ap twins (words-step n s b i p))
 
 -- ---- the number of a roster
 
@@ -110,13 +80,3 @@ roster-twins f own serials z = elim (decLt 0 (twins serials)) [ yes p ↦ absurd
   where
     once : Twice serials → ⊥
     once = roster-says f own serials .exactly 0 .0 z .1 .1 .0
-
--- so each counts at most once
-pub count-once : (x : ℕ) (l : List ℕ) → twins l ≡ 0 → count x l ≤ 1
-unfolding count twins
-count-once x [] e = omega arith
-count-once x (y ∷ l) e = go (eqb y x) refl (count-once x l (omega arith))
-  where
-    go : (t : Bool) → eqb y x ≡ t → count x l ≤ 1 → cond t 1 0 + count x l ≤ 1
-    go true q below = omega (arith, ap (λ (z : ℕ). count z l) (eqb-true y x q))
-    go false q below = omega arith

@@ -1,3 +1,4 @@
+pub mod Column
 pub mod Form
 pub mod Frame
 pub mod Number

@@ -1,25 +1,16 @@
 -- The roster: a fault number f, the own serial and a list of serials, and the numbers 2 to 5 that judge it (01, "Numbers
 -- given back"). The form reader, the form writer and the image of a node are judged by this one definition. It looks at the
 -- list through counts alone, so the order of lines decides nothing: all zeros come before any twin.
-use Prim.Native.Nat.{ℕ, _+_, _*_, _≤_}
-use mathlib.Core.List.{List, [], _∷_}
+use Prim.Native.Nat.{ℕ, _+_, _*_}
+use mathlib.Core.List.{List, _∷_}
 use mathlib.Core.Bool.{cond, _||_}
 use lib.ListN.{length}
 use lib.Dec.{ltb, eqb}
+use Rattle.forms.specs.Column.{count, twins}
 
 -- the greatest n (01, "Limits")
 abbrev pub mostLines : ℕ
 mostLines = 32
-
--- how often x stands in a list
-unfoldable pub count : ℕ → List ℕ → ℕ
-count x [] = 0
-count x (y ∷ ys) = cond (eqb y x) 1 0 + count x ys
-
--- how many pairs of lines hold the same serial
-unfoldable pub twins : List ℕ → ℕ
-twins [] = 0
-twins (x ∷ xs) = count x xs + twins xs
 
 -- the first of 2 to 5 that applies, or 0
 unfoldable pub rosterNumber : ℕ → ℕ → List ℕ → ℕ
@@ -29,11 +20,3 @@ rosterNumber f own serials =
     (cond (ltb 0 (twins serials)) 4
     (cond (eqb (count own serials) 0) 5
     0)))
-
--- ---- a column of serials in bytes
-
--- what the search for twins asks of its caller: whole words, no more than the limit, inside the bytes
-pub record Column (b : List ℕ) (i stride n : ℕ) : Type 0 where
-  pub whole : 4 ≤ stride
-  pub few : n ≤ mostLines
-  pub inside : i + n * stride ≤ length b

@@ -2,51 +2,17 @@
 // joints between layers: the caller has checked that the column lies inside the buffer.
 use crate::answer::Refusal;
 use crate::answer::Verdict;
-use fields::field::word;
+use crate::column::count_twins;
+use crate::column::count_word;
 ghost use mathlib.Core.Path.{_≡_};
 ghost use Prim.Native.Nat.{_+_, _*_, _≤_};
 ghost use lib.ListN.{length};
 ghost use Rattle.fields.specs.Field.{words};
 ghost use Rattle.forms.specs.Number.{verdictOf};
-ghost use Rattle.forms.specs.Roster.{count, twins, rosterNumber, Column};
+ghost use Rattle.forms.specs.Roster.{rosterNumber};
 
 // The greatest n.
 pub const MOST_LINES: usize = 32;
-
-// How often x stands among the n words at i, i + stride, ..
-pub fn count_word(b: &[u8], i: usize, stride: usize, n: usize, x: u32) -> usize
-    requires { ⌜ (4 ≤ stride) × (i + n * stride ≤ length (now b)) ⌝ }
-    ensures { λ r. ⌜ (r ≡ count x (words n stride (now (b .entry)) i)) × (r ≤ n) ⌝ }
-{
-    let mut found: usize = 0;
-    let mut at = i;
-    let mut left = n;
-    while 0 < left {
-        if word(b, at) == x {
-            found += 1;
-        }
-        at += stride;
-        left -= 1;
-    }
-    found
-}
-
-// How many pairs of the n words at i, i + stride, .. are the same serial.
-fn count_twins(b: &[u8], i: usize, stride: usize, n: usize) -> usize
-    requires { ⌜ Column (now b) i stride n ⌝ }
-    ensures { λ r. ⌜ r ≡ twins (words n stride (now (b .entry)) i) ⌝ }
-{
-    let mut found: usize = 0;
-    let mut at = i;
-    let mut left = n;
-    while 0 < left {
-        let here = word(b, at);
-        at += stride;
-        left -= 1;
-        found += count_word(b, at, stride, left, here);
-    }
-    found
-}
 
 // The first of 2 to 5 that applies to the n serials at i, i + stride, ..
 pub fn judge(f: u32, own: u32, b: &[u8], i: usize, stride: usize, n: usize) -> Verdict

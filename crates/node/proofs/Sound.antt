@@ -8,8 +8,10 @@ use native.Mathlib.Omega.{arith}
 use lib.ListN.{length, getD}
 use borrow.Author.Tests.{ltb-false, le-ltb, leb-true, le-leb, eqb-true, eq-eqb, not-true}
 use Rattle.fields.specs.Field.{field, words}
-use Rattle.forms.specs.Roster.{count, rosterNumber}
-use Rattle.forms.proofs.Rosters.{Limits, roster-limits, roster-twins, count-once}
+use Rattle.forms.specs.Column.{count}
+use Rattle.forms.specs.Roster.{rosterNumber}
+use Rattle.forms.proofs.Columns.{count-once}
+use Rattle.forms.proofs.Rosters.{Limits, roster-limits, roster-twins}
 use Rattle.fields.proofs.Words.{length-words}
 use Rattle.sets.specs.Sets.{maskBytes}
 use Rattle.evidence.specs.Rows.{rowSize, rowBytes, rowsAt}

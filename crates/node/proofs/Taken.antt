@@ -16,7 +16,7 @@ use Rattle.fields.specs.Kind.{INIT, ECHO}
 use Rattle.forms.specs.Form.{serialsPlace, linesOf, faultsOf, ownOf, formNumber, FormTold, formTold, toldBy}
 use Rattle.forms.specs.Frame.{frameSize, frameNumber}
 use Rattle.forms.specs.Number.{numberOf, orElse}
-use Rattle.forms.specs.Roster.{count}
+use Rattle.forms.specs.Column.{count}
 use Rattle.forms.specs.declared.answer.Refusal.{Refusal}
 use Rattle.forms.specs.declared.form.Form.{Form}
 use Rattle.forms.specs.declared.form.FormRead.{FormRead}

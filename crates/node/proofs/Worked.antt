@@ -10,7 +10,8 @@ use Rattle.fields.specs.Kind.{INIT, ECHO}
 use Rattle.fields.specs.Field.{field, putField, words}
 use Rattle.forms.specs.Form.{formNumber}
 use Rattle.forms.specs.Frame.{frameNumber, putFrame}
-use Rattle.forms.specs.Roster.{count, twins, rosterNumber}
+use Rattle.forms.specs.Column.{count, twins}
+use Rattle.forms.specs.Roster.{rosterNumber}
 use Rattle.sets.specs.Ticks.{Held, bit, raised, marked, holds, insert, insertAll, run, added, add, proper}
 use Rattle.evidence.specs.Rows.{setOf, setAt, rowAt, rowsAt, putSet, putRow, putRows}
 use Rattle.evidence.specs.Rows.{creditRow, creditOf, credit, properSet, properRows}

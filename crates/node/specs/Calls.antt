@@ -9,7 +9,7 @@ use Rattle.fields.specs.Field.{field}
 use Rattle.forms.specs.Form.{linesOf, faultsOf, ownOf, serialsOf, formNumber}
 use Rattle.forms.specs.Frame.{frameNumber}
 use Rattle.forms.specs.Number.{orElse}
-use Rattle.forms.specs.Roster.{count}
+use Rattle.forms.specs.Column.{count}
 use Rattle.evidence.specs.Rows.{putRows}
 use Rattle.rules.specs.Delivery.{State, Delivered, delivered}
 use Rattle.rules.specs.Describe.{room, freshNode, freshRows, bootRecords}

@@ -17,7 +17,7 @@ use forms::form::read_form;
 use forms::frame::Frame;
 use forms::frame::FrameRead;
 use forms::frame::read_frame;
-use forms::roster::count_word;
+use forms::column::count_word;
 use rules::node::Node;
 use rules::record::put_record;
 ghost use mathlib.Core.Path.{_≡_};

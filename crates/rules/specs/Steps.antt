@@ -6,7 +6,7 @@ use mathlib.Core.Bool.{Bool, _||_}
 use mathlib.Core.List.{List}
 use lib.ListN.{length}
 use Rattle.fields.specs.Field.{words}
-use Rattle.forms.specs.Roster.{count}
+use Rattle.forms.specs.Column.{count}
 use Rattle.sets.specs.Sets.{maskBytes}
 use Rattle.evidence.specs.Rows.{Row, rowBytes, rowsAt, putRows}
 use Rattle.rules.specs.Delivery.{State, Delivered}

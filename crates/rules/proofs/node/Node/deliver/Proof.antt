@@ -8,7 +8,7 @@ use native.Mathlib.Omega.{arith}
 use denote.Ref.{now}
 use lib.ListN.{length}
 use Rattle.fields.specs.Field.{words}
-use Rattle.forms.specs.Roster.{count}
+use Rattle.forms.specs.Column.{count}
 use Rattle.sets.specs.Sets.{maskBytes, maskBits}
 use Rattle.evidence.specs.Rows.{putRows, credit}
 use Rattle.evidence.proofs.Encoded.{credit-read-back}

@@ -1,4 +1,4 @@
--- `roster::count_word` meets its contract: what is found and what is left to count are together what the column holds, each turn takes
+-- `column::count_word` meets its contract: what is found and what is left to count are together what the column holds, each turn takes
 -- one line off the column, and no line counts twice, so the number stays at most n.
 -- Assumes nothing.
 use mathlib.Core.Path.{_≡_}
@@ -8,11 +8,11 @@ use native.Mathlib.Omega.{arith}
 use denote.Ref.{now}
 use lib.ListN.{length}
 use Rattle.fields.specs.Field.{words}
-use Rattle.forms.specs.Roster.{count}
+use Rattle.forms.specs.Column.{count}
 use Rattle.fields.proofs.Words.{size-step}
-use Rattle.forms.proofs.Rosters.{count-end, count-here, count-past}
-use Rattle.forms.proofs.roster.count_word.Statement.{statement}
-use Rattle.forms.proofs.roster.count_word.Tie as tie
+use Rattle.forms.proofs.Columns.{count-end, count-here, count-past}
+use Rattle.forms.proofs.column.count_word.Statement.{statement}
+use Rattle.forms.proofs.column.count_word.Tie as tie
 
 abbrev Inv-loop : tie.InvT-loop
 Inv-loop b i stride n x found₀ at₀ left₀ found at left =

@@ -1,4 +1,4 @@
--- `roster::count_twins` meets its contract: the twins found and those of the column that is left are together those of the whole column,
+-- `column::count_twins` meets its contract: the twins found and those of the column that is left are together those of the whole column,
 -- each turn takes off a line with the lines behind it that equal it, and the twins of the most lines fit the number.
 -- Assumes nothing.
 use mathlib.Core.Path.{_≡_}
@@ -7,15 +7,15 @@ use native.Mathlib.Omega.{arith}
 use denote.Ref.{now}
 use lib.ListN.{length}
 use Rattle.fields.specs.Field.{words}
-use Rattle.forms.specs.Roster.{mostLines, twins}
+use Rattle.forms.specs.Column.{mostColumn, twins}
 use Rattle.fields.proofs.Words.{size-step}
-use Rattle.forms.proofs.Rosters.{twins-end, twins-step}
-use Rattle.forms.proofs.roster.count_twins.Statement.{statement}
-use Rattle.forms.proofs.roster.count_twins.Tie as tie
+use Rattle.forms.proofs.Columns.{twins-end, twins-step}
+use Rattle.forms.proofs.column.count_twins.Statement.{statement}
+use Rattle.forms.proofs.column.count_twins.Tie as tie
 
 abbrev Inv-loop : tie.InvT-loop
 Inv-loop b i stride n found₀ at₀ left₀ found at left =
-    (at + left * stride ≤ length b) × (left ≤ mostLines) × (found + left * mostLines ≤ mostLines * mostLines)
+    (at + left * stride ≤ length b) × (left ≤ mostColumn) × (found + left * mostColumn ≤ mostColumn * mostColumn)
     × (found + twins (words left stride b at) ≡ twins (words n stride b i))
 
 abbrev μ-loop : tie.MeasureT-loop

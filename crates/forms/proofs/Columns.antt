@@ -1,0 +1,102 @@
+-- Laws of a column of words: its counts and its pairs line by line, and a column that ascends, of which no number stands twice.
+-- Assumes nothing.
+use mathlib.Core.Path.{_≡_, refl, sym, ap, _∙_}
+use mathlib.Core.List.{List, [], _∷_}
+use mathlib.Core.Bool.{Bool, true, false, cond, _&&_, false≢true}
+use Prim.Native.Nat.{ℕ, zero, suc, _+_, _-_, _*_, _≤_, _<_}
+use native.Mathlib.Decide.{decLt}
+use native.Mathlib.Omega.{arith}
+use lib.ListN.{length}
+use lib.Dec.{ltb, eqb}
+use borrow.Author.Tests.{lt-ltb, le-ltb, ltb-true, ltb-false, eqb-true, eq-eqb, ne-eqb}
+use Rattle.fields.specs.Field.{field, words}
+use Rattle.forms.specs.Column.{count, twins, ascends}
+use Rattle.fields.proofs.Words.{words-step, words-end}
+
+-- ---- counts
+
+pub count-end : (x n s : ℕ) (b : List ℕ) (i : ℕ) → n ≤ 0 → count x (words n s b i) ≡ 0
+unfolding count
+count-end x n s b i p = ap (count x) (words-end n s b i p)
+
+module _ (x n s : ℕ) (b : List ℕ) (i : ℕ) (p : 0 < n) where
+  count-step : count x (words n s b i) ≡ cond (eqb (field 4 b i) x) 1 0 + count x (words (n - 1) s b (i + s))
+  unfolding count
+  count-step = ap (count x) (words-step n s b i p)
+
+  -- the first line holds x
+  pub count-here : field 4 b i ≡ x → count x (words n s b i) ≡ 1 + count x (words (n - 1) s b (i + s))
+  count-here e = rw eq-eqb at count-step
+
+  -- the first line holds something else
+  pub count-past : (field 4 b i ≡ x → ⊥) → count x (words n s b i) ≡ count x (words (n - 1) s b (i + s))
+  count-past ne = rw ne-eqb at count-step ∙ omega arith
+
+-- ---- twins
+
+pub twins-end : (n s : ℕ) (b : List ℕ) (i : ℕ) → n ≤ 0 → twins (words n s b i) ≡ 0
+unfolding twins
+twins-end n s b i p = ap twins (words-end n s b i p)
+
+-- the first line, which holds x, makes a twin of each line behind it that holds x
+pub twins-step : (n s : ℕ) (b : List ℕ) (i x : ℕ) → 0 < n → x ≡ field 4 b i →
+    twins (words n s b i) ≡ count x (words (n - 1) s b (i + s)) + twins (words (n - 1) s b (i + s))
+unfolding twins
+twins-step n s b i x p e = rw e (ap twins (words-step n s b i p))
+
+-- where no number stands twice, each counts at most once
+pub count-once : (x : ℕ) (l : List ℕ) → twins l ≡ 0 → count x l ≤ 1
+unfolding count twins
+count-once x [] e = omega arith
+count-once x (y ∷ l) e = go (eqb y x) refl (count-once x l (omega arith))
+  where
+    go : (t : Bool) → eqb y x ≡ t → count x l ≤ 1 → cond t 1 0 + count x l ≤ 1
+    go true q below = omega (arith, ap (λ (z : ℕ). count z l) (eqb-true y x q))
+    go false q below = omega arith
+
+-- ---- a column that ascends
+
+-- one line, or none
+pub ascends-end : (n s : ℕ) (b : List ℕ) (i : ℕ) → n ≤ 1 → ascends (words n s b i) ≡ true
+unfolding ascends words
+ascends-end zero s b i p = refl
+ascends-end (suc zero) s b i p = refl
+ascends-end (suc (suc n)) s b i p = absurd (omega arith)
+
+module _ (n s : ℕ) (b : List ℕ) (i : ℕ) (p : 1 < n) where
+  ascends-look : ascends (words n s b i) ≡ (ltb (field 4 b i) (field 4 b (i + s)) && ascends (words (n - 1) s b (i + s)))
+  unfolding ascends
+  ascends-look =
+      let below = words-step (n - 1) s b (i + s) (omega arith) in
+      ap ascends (words-step n s b i (omega arith))
+      ∙ ap (λ (l : List ℕ). ascends (field 4 b i ∷ l)) below
+      ∙ ap (λ (l : List ℕ). ltb (field 4 b i) (field 4 b (i + s)) && ascends l) (sym below)
+
+  -- the second line is above the first
+  pub ascends-on : field 4 b i < field 4 b (i + s) → ascends (words n s b i) ≡ ascends (words (n - 1) s b (i + s))
+  ascends-on up = ascends-look ∙ rw (lt-ltb (field 4 b i) (field 4 b (i + s)) up)
+
+  -- it is not
+  pub ascends-no : field 4 b (i + s) ≤ field 4 b i → ascends (words n s b i) ≡ false
+  ascends-no down = ascends-look ∙ rw (le-ltb (field 4 b i) (field 4 b (i + s)) down)
+
+both-hold : (s t : Bool) → (s && t) ≡ true → (s ≡ true) × (t ≡ true)
+both-hold true t e = (refl, e)
+both-hold false t e = absurd (false≢true e)
+
+-- what is below the first number of such a list stands nowhere in it
+above-none : (x y : ℕ) (ys : List ℕ) → x < y → ascends (y ∷ ys) ≡ true → count x (y ∷ ys) ≡ 0
+unfolding count ascends
+above-none x y [] up e = rw (ne-eqb y x (λ d. omega arith))
+above-none x y (z ∷ zs) up e =
+    let h = both-hold (ltb y z) (ascends (z ∷ zs)) e in
+    rw (ne-eqb y x (λ d. omega arith)) (omega (arith, above-none x z zs (omega (arith, ltb-true y z (h .0))) (h .1)))
+
+-- so no number stands twice
+pub ascends-once : (l : List ℕ) → ascends l ≡ true → twins l ≡ 0
+unfolding ascends twins count
+ascends-once [] e = refl
+ascends-once (x ∷ []) e = refl
+ascends-once (x ∷ y ∷ ys) e =
+    let h = both-hold (ltb x y) (ascends (y ∷ ys)) e in
+    omega (arith, above-none x y ys (ltb-true x y (h .0)) (h .1), ascends-once (y ∷ ys) (h .1))

@@ -8,7 +8,7 @@
  * of length 0 may have any pointer. Nothing is kept between calls: a node is its image and nothing else, so one program may run any
  * number of nodes, and an image may be copied, stored and moved between calls. The calls use no heap and no global data.
  *
- * Link with libnode.a (x86-64), which `rt staticlib node` writes.
+ * Link with libpebrassola.a (x86-64), which `rt staticlib pebrassola` writes.
  */
 #ifndef PEBRASSOLA_H
 #define PEBRASSOLA_H

@@ -8,9 +8,8 @@ use crate::file::MOST_EVENTS;
 use crate::file::put_bytes;
 use crate::file::read_log;
 use fields::field::word;
-use node::face::Answer;
-use node::face::pebrassola_boot;
-use node::face::pebrassola_deliver;
+use node::calls;
+use node::calls::Answer;
 use node::image::MODE_PLACE;
 use node::image::MOST_IMAGE;
 use node::image::TICK_PLACE;
@@ -20,8 +19,8 @@ ghost use mathlib.Core.List.{List};
 ghost use Prim.Native.Nat.{ℕ, _+_, _*_, _≤_};
 ghost use lib.ListN.{length};
 ghost use Rattle.rules.specs.Describe.{lastTick};
+ghost use Rattle.node.specs.Answers.{outcomeBy};
 ghost use Rattle.node.specs.Calls.{booted};
-ghost use Rattle.node.specs.Faces.{outcomeBy};
 ghost use Rattle.node.specs.Image.{headerSize, layout};
 ghost use Rattle.log.specs.Decimal.{decimal};
 ghost use Rattle.log.specs.Listing.{mostDigits, columnRoom, lineRoom, listingRoom, imageLent, outLent};
@@ -143,7 +142,7 @@ fn play_event(
 {
     let port = word(log, place);
     let frame = &log[place + FRAME_PLACE..place + EVENT_SIZE];
-    let answer = pebrassola_deliver(image, port, frame, sent);
+    let answer = calls::deliver(image, port, frame, sent);
     let after = &image[..];
     let k = word(after, TICK_PLACE);
     let mode = after[MODE_PLACE] as u32;
@@ -192,7 +191,7 @@ fn play_calls(log: &[u8], taken: Log, out: &mut [u8]) -> usize
     let mut image = [0u8; MOST_IMAGE];
     let mut sent = [0u8; Node::ROOM];
     let e = taken.events as usize;
-    let answer = pebrassola_boot(&log[FORM_PLACE..e], &mut image, &mut sent);
+    let answer = calls::boot(&log[FORM_PLACE..e], &mut image, &mut sent);
     let boot = show_boot(answer, &image, out);
     if boot.number != 0 {
         return boot.next;

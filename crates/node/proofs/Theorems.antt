@@ -1,8 +1,8 @@
 -- WHERE A READER STARTS. The customer's three demands about boot, deliver and read, one block for each call, at the layout and the last
 -- tick in service. What the words of a statement mean is in specs/: `booted`, `deliverOutcome` and `reading` in Calls, the rows of the
 -- table of numbers in Table, what a call leaves in After, what was heard in Heard, a truck's whole life in Runs. That the code gives
--- just these outcomes, for every input, is the contract of each exported function (src/face.rt). The proofs are short here and stand in
--- the files named.
+-- just these outcomes, for every input, is the contract of each call (src/calls.rt). The proofs are short here and stand in the files
+-- named.
 -- Assumes nothing.
 use mathlib.Core.Path.{_≡_, sym, ap, _∙_, subst}
 use mathlib.Core.Bool.{true}
@@ -30,17 +30,17 @@ use Rattle.rules.specs.declared.node.Node.{Node}
 use Rattle.rules.specs.declared.node.Rule.{Rule}
 use Rattle.rules.proofs.Which.{which-says}
 use Rattle.node.specs.After.{Begins, Follows, InRow}
+use Rattle.node.specs.Answers.{outcomeBy, readingBy}
 use Rattle.node.specs.Calls.{Outcome, refused, booted, deliverNumber, deliveryOf, deliverDone, deliverOutcome, unread, reading}
 use Rattle.node.specs.Calls.{Reading as Told}
-use Rattle.node.specs.Faces.{outcomeBy, readingBy}
 use Rattle.node.specs.Heard.{imageLeft, accepted}
 use Rattle.node.specs.Image.{modePlace, tickPlace, sentPlace}
 use Rattle.node.specs.Image.{layout, imageSize, rowsOf, nodeOf, stateOf, fixedHeader, putState, soundImage}
 use Rattle.node.specs.Runs.{Call, life}
 use Rattle.node.specs.Sound.{SoundImage}
 use Rattle.node.specs.Table.{bootChecks, deliverChecks, readChecks}
-use Rattle.node.specs.declared.face.Answer.{Answer}
-use Rattle.node.specs.declared.face.Reading.{Reading}
+use Rattle.node.specs.declared.calls.Answer.{Answer}
+use Rattle.node.specs.declared.calls.Reading.{Reading}
 use Rattle.node.proofs.Images.{state-again}
 use Rattle.node.proofs.Conditions.{sound-says}
 use Rattle.node.proofs.Heard.{held-is-heard, held-same}

@@ -1,6 +1,6 @@
 pub mod After
+pub mod Answers
 pub mod Calls
-pub mod Faces
 pub mod Heard
 pub mod Image
 pub mod Runs

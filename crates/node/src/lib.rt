@@ -1,3 +1,3 @@
-// The node of the clock on byte buffers: its image, and boot, deliver and read for truck firmware in C.
-pub mod face;
+// The node of the clock on byte buffers: its image, and the calls boot, deliver and read.
+pub mod calls;
 pub mod image;

@@ -2,10 +2,8 @@
 // a call asks, so that bytes behind what a call writes are seen to stay.
 use crate::show;
 use crate::step::Step;
-use node::face::Answer;
-use node::face::pebrassola_boot;
-use node::face::pebrassola_deliver;
-use node::face::pebrassola_read;
+use node::calls;
+use node::calls::Answer;
 use node::image::MOST_IMAGE;
 use rules::node::Node;
 ghost use Prim.Native.Nat.{_≤_};
@@ -22,9 +20,9 @@ const BOOT: u32 = 5;
 
 fn boot_or_deliver(step: Step, data: &[u8], image: &mut [u8], out: &mut [u8]) -> Answer {
     if step.kind == BOOT {
-        return pebrassola_boot(data, image, out);
+        return calls::boot(data, image, out);
     }
-    pebrassola_deliver(image, step.port, data, out)
+    calls::deliver(image, step.port, data, out)
 }
 
 // Lends only the first bytes of the two buffers, for calls that have too little room.
@@ -56,7 +54,7 @@ pub(crate) fn read(step: Step, image: &[u8]) -> bool {
     if size > image.len() {
         return false;
     }
-    let reading = pebrassola_read(&image[0..size]);
+    let reading = calls::read(&image[0..size]);
     show::pair(reading.number, reading.clock);
     show::end();
     true

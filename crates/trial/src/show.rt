@@ -2,7 +2,7 @@
 use crate::call::IMAGE;
 use crate::call::OUT;
 use crate::step::Step;
-use node::face::Answer;
+use node::calls::Answer;
 use rules::record::RECORD;
 
 fn number(n: u32) {

@@ -24,23 +24,23 @@ use Rattle.log.proofs.player.play_calls.Tie as tie
 cast-e : tie.Need-cast-e
 cast-e c = search needs
 
-sub-pebrassola-boot : tie.Need-sub-pebrassola-boot
-sub-pebrassola-boot c = search needs
+sub-boot : tie.Need-sub-boot
+sub-boot c = search needs
 
-part-pebrassola-boot-start : tie.Need-part-pebrassola-boot-start
-part-pebrassola-boot-start c = search needs
+part-boot-start : tie.Need-part-boot-start
+part-boot-start c = search needs
 
-part-pebrassola-boot-end : tie.Need-part-pebrassola-boot-end
-part-pebrassola-boot-end c = search needs
+part-boot-end : tie.Need-part-boot-end
+part-boot-end c = search needs
 
-slice-aggregate-pebrassola-boot : tie.Need-slice-aggregate-pebrassola-boot
-slice-aggregate-pebrassola-boot c = search needs
+slice-aggregate-boot : tie.Need-slice-aggregate-boot
+slice-aggregate-boot c = search needs
 
-slice-aggregate-pebrassola-boot-2 : tie.Need-slice-aggregate-pebrassola-boot-2
-slice-aggregate-pebrassola-boot-2 c = search needs
+slice-aggregate-boot-2 : tie.Need-slice-aggregate-boot-2
+slice-aggregate-boot-2 c = search needs
 
-pebrassola-boot-requires : tie.Need-pebrassola-boot-requires
-pebrassola-boot-requires c κs = search needs
+boot-requires : tie.Need-boot-requires
+boot-requires c κs = search needs
 
 slice-aggregate-show-boot : tie.Need-slice-aggregate-show-boot
 slice-aggregate-show-boot c = search needs
@@ -53,17 +53,17 @@ shown : (c : tie.After-show-boot) →
     let booting = c .before .before .before .before .before in
     let a = booting .before .before .before .before .before .before .before .args in
     CallShown 0 (booted layout (formOf (now (a .log))) imageLent outLent) (now (a .out)) 0 (c .show-boot .result)
-    (booting .pebrassola-boot .last .1 .0) (booting .pebrassola-boot .last .1 .1 .0) (c .show-boot .last .1 .1 .0)
+    (booting .boot .last .1 .0) (booting .boot .last .1 .1 .0) (c .show-boot .last .1 .1 .0)
 unfolding formOf
 shown c =
     let booting = c .before .before .before .before .before in
     let start = booting .before .before .before .before .before .before .before in
     let a = start .args in
-    let image = booting .pebrassola-boot .last .1 .0 in
-    let sent = booting .pebrassola-boot .last .1 .1 .0 in
+    let image = booting .boot .last .1 .0 in
+    let sent = booting .boot .last .1 .1 .0 in
     let form : ℕ → List ℕ = λ e. take (e - formPlace) (drop formPlace (now (a .log))) in
     subst (λ (o : Outcome). CallShown 0 o (now (a .out)) 0 (c .show-boot .result) image sent (c .show-boot .last .1 .1 .0))
-    (booting .pebrassola-boot .ensures ∙ ap (λ (e : ℕ). booted layout (form e) imageLent outLent) (start .pre .0 .events))
+    (booting .boot .ensures ∙ ap (λ (e : ℕ). booted layout (form e) imageLent outLent) (start .pre .0 .events))
     (c .show-boot .ensures sent)
 
 same-length : tie.Need-same-length
@@ -116,12 +116,12 @@ play-calls-spec =
     tie.close
     (tie.spec
     cast-e
-    sub-pebrassola-boot
-    part-pebrassola-boot-start
-    part-pebrassola-boot-end
-    slice-aggregate-pebrassola-boot
-    slice-aggregate-pebrassola-boot-2
-    pebrassola-boot-requires
+    sub-boot
+    part-boot-start
+    part-boot-end
+    slice-aggregate-boot
+    slice-aggregate-boot-2
+    boot-requires
     slice-aggregate-show-boot
     show-boot-requires
     same-length

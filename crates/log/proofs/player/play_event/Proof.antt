@@ -10,8 +10,8 @@ use lib.ListN.{take, drop}
 use Rattle.fields.specs.Field.{field}
 use Rattle.forms.specs.Frame.{frameSize}
 use Rattle.rules.specs.Describe.{lastTick}
+use Rattle.node.specs.Answers.{outcomeBy}
 use Rattle.node.specs.Calls.{Outcome, deliverOutcome}
-use Rattle.node.specs.Faces.{outcomeBy}
 use Rattle.node.specs.Image.{layout}
 use Rattle.log.specs.Listing.{eventCall}
 use Rattle.log.specs.Log.{eventSize}
@@ -37,8 +37,8 @@ part-frame-start c = search needs
 part-frame-end : tie.Need-part-frame-end
 part-frame-end c = search needs
 
-pebrassola-deliver-requires : tie.Need-pebrassola-deliver-requires
-pebrassola-deliver-requires c κs = search needs
+deliver-requires : tie.Need-deliver-requires
+deliver-requires c κs = search needs
 
 word-requires-2 : tie.Need-word-requires-2
 word-requires-2 c κs = search needs
@@ -73,16 +73,16 @@ delivers log image sent place size whole from made =
     made ∙ ap₂ (λ (port size : ℕ). deliverOutcome layout lastTick image port (take size (drop (place + 4) log)) sent) from whole
 
 -- the call is the event's
-called : (c : tie.After-pebrassola-deliver) →
+called : (c : tie.After-deliver) →
     let a = c .before .before .before .before .before .before .before .before .before .args in
-    outcomeBy (c .pebrassola-deliver .result) (c .pebrassola-deliver .last .0) (c .pebrassola-deliver .last .1 .1 .1 .0)
+    outcomeBy (c .deliver .result) (c .deliver .last .0) (c .deliver .last .1 .1 .1 .0)
     ≡ eventCall layout lastTick (now (a .log)) (a .place) (now (a .image)) (now (a .sent))
 called c =
     let ported = c .before .before .before .before in
     let a = ported .before .before .before .before .before .args in
     let size : ℕ = a .place + eventSize - (a .place + 4) in
     delivers (now (a .log)) (now (a .image)) (now (a .sent)) (a .place) size (omega arith) (ported .word .ensures)
-    (c .pebrassola-deliver .ensures)
+    (c .deliver .ensures)
 
 returns : tie.Need-returns
 returns c =
@@ -103,7 +103,7 @@ play-event-spec =
     sub-frame
     part-frame-start
     part-frame-end
-    pebrassola-deliver-requires
+    deliver-requires
     word-requires-2
     shared-slice-read-mode
     cast-mode

@@ -1,4 +1,4 @@
--- `face::deliver_number` meets its contract: the tests are those of the definition, one after the other, and the rows of a sound image
+-- `calls::deliver_number` meets its contract: the tests are those of the definition, one after the other, and the rows of a sound image
 -- lie inside the buffer.
 -- Assumes nothing.
 use borrow.Author.Needs.{needs}
@@ -15,8 +15,8 @@ use Rattle.node.specs.Calls.{deliverNumber}
 use Rattle.rules.specs.Describe.{room, lastTick}
 use Rattle.node.specs.Image.{layout, soundImage}
 use Rattle.node.proofs.Sound.{SoundBytes, sound-bytes, rows-inside}
-use Rattle.node.proofs.face.deliver_number.Statement.{statement}
-use Rattle.node.proofs.face.deliver_number.Tie as tie
+use Rattle.node.proofs.calls.deliver_number.Statement.{statement}
+use Rattle.node.proofs.calls.deliver_number.Tie as tie
 
 returns : tie.Need-returns
 unfolding deliverNumber

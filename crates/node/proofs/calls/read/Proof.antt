@@ -1,4 +1,4 @@
--- `face::pebrassola_read` meets its contract: the tests are those of the definition, and a sound image has its clock inside the buffer.
+-- `calls::read` meets its contract: the tests are those of the definition, and a sound image has its clock inside the buffer.
 -- Assumes nothing.
 use borrow.Author.Needs.{needs}
 use mathlib.Core.Path.{_≡_, sym, _∙_}
@@ -12,8 +12,8 @@ use Rattle.node.specs.Calls.{readNumber, reading}
 use Rattle.rules.specs.Describe.{lastTick}
 use Rattle.node.specs.Image.{layout, soundImage}
 use Rattle.node.proofs.Sound.{SoundBytes, sound-bytes}
-use Rattle.node.proofs.face.pebrassola_read.Statement.{statement}
-use Rattle.node.proofs.face.pebrassola_read.Tie as tie
+use Rattle.node.proofs.calls.read.Statement.{statement}
+use Rattle.node.proofs.calls.read.Tie as tie
 
 is-sound-requires : tie.Need-is-sound-requires
 is-sound-requires c κs = search needs
@@ -48,7 +48,7 @@ returns-3 c =
     let clock : c .word .result ≡ field 4 image 8 = omega arith in
     rw (sound (c .before .before .before), ne-eqb (getD image 2 0) 0 (omega arith), clock)
 
-pub pebrassola-read-spec : {M : Type 1} → statement M
-pebrassola-read-spec =
+pub read-spec : {M : Type 1} → statement M
+read-spec =
     tie.close
     (tie.spec is-sound-requires returns shared-slice-read-if2 returns-2 word-requires returns-3)

@@ -1,4 +1,4 @@
--- `face::pebrassola_deliver` meets its contract: a delivery with number 0 has a sound image, a port on its roster and a whole frame,
+-- `calls::deliver` meets its contract: a delivery with number 0 has a sound image, a port on its roster and a whole frame,
 -- which is what the engine asks, and the stores are the definition's.
 -- Assumes nothing.
 use borrow.Author.Needs.{needs}
@@ -18,8 +18,8 @@ use Rattle.rules.specs.Steps.{DeliveredAs}
 use Rattle.rules.proofs.Clock.{delivered-ordered}
 use Rattle.node.proofs.Sound.{SoundBytes, sound-bytes, sound-rows, sound-once}
 use Rattle.node.proofs.Taken.{Taken, deliver-taken, frame-whole}
-use Rattle.node.proofs.face.pebrassola_deliver.Statement.{statement}
-use Rattle.node.proofs.face.pebrassola_deliver.Tie as tie
+use Rattle.node.proofs.calls.deliver.Statement.{statement}
+use Rattle.node.proofs.calls.deliver.Tie as tie
 
 deliver-number-requires : tie.Need-deliver-number-requires
 deliver-number-requires c κs = search needs
@@ -131,8 +131,8 @@ returns-2 c =
       d .bytes,
     )
 
-pub pebrassola-deliver-spec : {M : Type 1} → statement M
-pebrassola-deliver-spec =
+pub deliver-spec : {M : Type 1} → statement M
+deliver-spec =
     tie.close
     (tie.spec
     deliver-number-requires

@@ -1,4 +1,4 @@
--- `face::pebrassola_boot` meets its contract: the tests are those of the definition, a form that is taken keeps the limits, and the
+-- `calls::boot` meets its contract: the tests are those of the definition, a form that is taken keeps the limits, and the
 -- stores are the fresh node's.
 -- Assumes nothing.
 use borrow.Author.Needs.{needs}
@@ -17,8 +17,8 @@ use Rattle.rules.specs.Describe.{room, bootRecords}
 use Rattle.node.specs.Image.{layout, imageSize, putState}
 use Rattle.rules.specs.Record.{putRecords}
 use Rattle.node.proofs.Taken.{form-refuses, told-form, form-limits}
-use Rattle.node.proofs.face.pebrassola_boot.Statement.{statement}
-use Rattle.node.proofs.face.pebrassola_boot.Tie as tie
+use Rattle.node.proofs.calls.boot.Statement.{statement}
+use Rattle.node.proofs.calls.boot.Tie as tie
 
 read-form-requires : tie.Need-read-form-requires
 read-form-requires c κs = search needs
@@ -157,8 +157,8 @@ done c =
 returns-4 : tie.Need-returns-4
 returns-4 c = sym (done (c .before .before))
 
-pub pebrassola-boot-spec : {M : Type 1} → statement M
-pebrassola-boot-spec =
+pub boot-spec : {M : Type 1} → statement M
+boot-spec =
     tie.close
     (tie.spec
     read-form-requires

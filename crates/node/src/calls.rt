@@ -1,5 +1,5 @@
-// The face to truck firmware in C: boot, deliver and read on byte buffers. Nothing has to be checked beforehand but that the
-// buffers are real memory of the stated length and do not overlap. A refusal gives its number and changes no byte.
+// The calls on byte buffers: boot, deliver and read. Nothing has to be checked beforehand: every form, image, port, frame and output
+// is handled. A refusal gives its number and changes no byte. Crate `pebrassola` exports these calls to C, so the answers are C structs.
 use crate::image::HEADER;
 use crate::image::MODE_PLACE;
 use crate::image::TICK_PLACE;
@@ -21,9 +21,9 @@ use forms::column::count_word;
 use rules::node::Node;
 use rules::record::put_record;
 ghost use mathlib.Core.Path.{_≡_};
+ghost use Rattle.node.specs.Answers.{outcomeBy, readingBy};
 ghost use Rattle.node.specs.Calls.{booted, deliverNumber, deliverOutcome, reading};
 ghost use Rattle.rules.specs.Describe.{lastTick};
-ghost use Rattle.node.specs.Faces.{outcomeBy, readingBy};
 ghost use Rattle.node.specs.Image.{layout};
 
 // The number of a call, and the records that stand in the output.
@@ -41,8 +41,7 @@ pub struct Reading {
 }
 
 // Makes a fresh node of a form.
-#[no_mangle]
-pub extern "C" fn pebrassola_boot(form: &[u8], image: &mut [u8], out: &mut [u8]) -> Answer
+pub fn boot(form: &[u8], image: &mut [u8], out: &mut [u8]) -> Answer
     ensures { λ r. ⌜ outcomeBy r (now (image .exit)) (now (out .exit))
         ≡ booted layout (now (form .entry)) (now (image .entry)) (now (out .entry)) ⌝ }
 {
@@ -98,13 +97,7 @@ fn deliver_number(image: &[u8], port: u32, frame: &[u8], room: usize) -> u32
 }
 
 // Takes one frame that the wiring delivered from a port.
-#[no_mangle]
-pub extern "C" fn pebrassola_deliver(
-    image: &mut [u8],
-    port: u32,
-    frame: &[u8],
-    out: &mut [u8],
-) -> Answer
+pub fn deliver(image: &mut [u8], port: u32, frame: &[u8], out: &mut [u8]) -> Answer
     ensures { λ r. ⌜ outcomeBy r (now (image .exit)) (now (out .exit))
         ≡ deliverOutcome layout lastTick (now (image .entry)) port (now (frame .entry)) (now (out .entry)) ⌝ }
 {
@@ -127,8 +120,7 @@ pub extern "C" fn pebrassola_deliver(
 }
 
 // The clock of an active node.
-#[no_mangle]
-pub extern "C" fn pebrassola_read(image: &[u8]) -> Reading
+pub fn read(image: &[u8]) -> Reading
     ensures { λ r. ⌜ readingBy r ≡ reading layout lastTick (now (image .entry)) ⌝ }
 {
     if !is_sound(image) {

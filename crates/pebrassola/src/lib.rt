@@ -1,0 +1,42 @@
+// What truck firmware in C links: the exported functions and nothing else. Each is one call of the crate that owns it, under the same
+// contract. The C caller's only duty is that the buffers are real memory of the stated length and do not overlap.
+// include/pebrassola.h declares them.
+use node::calls;
+use node::calls::Answer;
+use node::calls::Reading;
+ghost use mathlib.Core.Path.{_≡_};
+ghost use Rattle.rules.specs.Describe.{lastTick};
+ghost use Rattle.node.specs.Answers.{outcomeBy, readingBy};
+ghost use Rattle.node.specs.Calls.{booted, deliverOutcome, reading};
+ghost use Rattle.node.specs.Image.{layout};
+
+// Makes a fresh node of a form.
+#[no_mangle]
+pub extern "C" fn pebrassola_boot(form: &[u8], image: &mut [u8], out: &mut [u8]) -> Answer
+    ensures { λ r. ⌜ outcomeBy r (now (image .exit)) (now (out .exit))
+        ≡ booted layout (now (form .entry)) (now (image .entry)) (now (out .entry)) ⌝ }
+{
+    calls::boot(form, image, out)
+}
+
+// Takes one frame that the wiring delivered from a port.
+#[no_mangle]
+pub extern "C" fn pebrassola_deliver(
+    image: &mut [u8],
+    port: u32,
+    frame: &[u8],
+    out: &mut [u8],
+) -> Answer
+    ensures { λ r. ⌜ outcomeBy r (now (image .exit)) (now (out .exit))
+        ≡ deliverOutcome layout lastTick (now (image .entry)) port (now (frame .entry)) (now (out .entry)) ⌝ }
+{
+    calls::deliver(image, port, frame, out)
+}
+
+// The clock of an active node.
+#[no_mangle]
+pub extern "C" fn pebrassola_read(image: &[u8]) -> Reading
+    ensures { λ r. ⌜ readingBy r ≡ reading layout lastTick (now (image .entry)) ⌝ }
+{
+    calls::read(image)
+}

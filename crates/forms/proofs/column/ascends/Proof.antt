@@ -58,10 +58,11 @@ loop-less c = omega arith
 loop-again : tie.Need-loop-again Inv-loop μ-loop
 loop-again c =
     let a = c .before .before .before .before .before .before .args in
-    let l = c .before .before .before .before .loop in
-    (omega (arith, shorter (c .before .before .before)),
-     omega arith,
-     sym (ascends-on (l .left) (a .stride) (now (a .b)) (l .at) (omega arith) (omega arith)) ∙ l .inv .2)
+    let l = c .before .before .before .before .loop in (
+      omega (arith, shorter (c .before .before .before)),
+      omega arith,
+      sym (ascends-on (l .left) (a .stride) (now (a .b)) (l .at) (omega arith) (omega arith)) ∙ l .inv .2,
+    )
 
 returns-2 : tie.Need-returns-2 Inv-loop μ-loop
 returns-2 c =

@@ -1,8 +1,12 @@
 /*
  * Pebrassola: one node of a fault-tolerant clock for up to 32 controllers, of which up to f may misbehave in any way.
  *
- * Three calls on byte buffers that the caller owns. Nothing has to be checked before a call: every form, image, port, frame and
- * buffer is handled, or refused with a number of enum pebrassola_number. A refusal reports no records and changes no byte.
+ * Boot, deliver and read run a node. A sheet says which packs are licensed from which tick to which: pack tells whether one is in
+ * force at the tick that a node's clock has, and write_sheet makes a sheet.
+ *
+ * All are calls on byte buffers that the caller owns. Nothing has to be checked before a call: every form, image, port, frame, sheet,
+ * pack number and buffer is handled, or refused with a number of enum pebrassola_number. A refusal reports nothing else (the other
+ * field of the answer is 0) and changes no byte.
  *
  * The caller's only duty: each pointer is to real memory of the stated length, and the buffers of one call do not overlap. A buffer
  * of length 0 may have any pointer. Nothing is kept between calls: a node is its image and nothing else, so one program may run any
@@ -29,21 +33,33 @@ extern "C" {
 #define PEBRASSOLA_MOST_CONTROLLERS 32u
 #define PEBRASSOLA_LAST_TICK 4000000000u
 
+/*
+ * Bytes of a sheet with so many entries, and of an entry. Words are big-endian. A sheet is the count of entries in 2 bytes, where they
+ * stand in 2 (always 4), then the entries: pack number, first tick, end (the first tick that is no longer licensed), 4 bytes each.
+ */
+#define PEBRASSOLA_SHEET_BYTES(entries) (4u + PEBRASSOLA_ENTRY_BYTES * (size_t)(entries))
+#define PEBRASSOLA_ENTRY_BYTES 12u
+#define PEBRASSOLA_MOST_ENTRIES 200u
+
 /* The number given back; the first that applies, in the order that each call names. */
 enum pebrassola_number {
-    PEBRASSOLA_DONE = 0,         /* success */
-    PEBRASSOLA_FORM_LAYOUT = 1,  /* form shorter than 8, offset not 8, or length not 8 + 4n */
-    PEBRASSOLA_FORM_LIMITS = 2,  /* n not 1..32, or n < 3f + 1 */
-    PEBRASSOLA_FORM_ZERO = 3,    /* a serial or the own serial is 0 */
-    PEBRASSOLA_FORM_TWICE = 4,   /* a serial stands twice */
-    PEBRASSOLA_FORM_OWN = 5,     /* own serial not in the list */
-    PEBRASSOLA_IMAGE_ROOM = 6,   /* image buffer shorter than 32 + 28n */
-    PEBRASSOLA_OUT_ROOM = 7,     /* output shorter than 192 bytes */
-    PEBRASSOLA_IMAGE = 8,        /* image buffer shorter than 32 or than its stated size, or image not sound */
-    PEBRASSOLA_PORT = 9,         /* port serial not in the roster */
-    PEBRASSOLA_FRAME = 10,       /* frame not 8 long, kind not 1 or 2, or bytes 1..3 not zero */
-    PEBRASSOLA_FRAME_TICK = 11,  /* tick above the last tick */
-    PEBRASSOLA_PASSIVE = 12      /* the node is passive: it has no clock yet */
+    PEBRASSOLA_DONE = 0,          /* success */
+    PEBRASSOLA_FORM_LAYOUT = 1,   /* form shorter than 8, offset not 8, or length not 8 + 4n */
+    PEBRASSOLA_FORM_LIMITS = 2,   /* n not 1..32, or n < 3f + 1 */
+    PEBRASSOLA_FORM_ZERO = 3,     /* a serial or the own serial is 0 */
+    PEBRASSOLA_FORM_TWICE = 4,    /* a serial stands twice */
+    PEBRASSOLA_FORM_OWN = 5,      /* own serial not in the list */
+    PEBRASSOLA_IMAGE_ROOM = 6,    /* image buffer shorter than 32 + 28n */
+    PEBRASSOLA_OUT_ROOM = 7,      /* output shorter than 192 bytes; for write_sheet, than the sheet */
+    PEBRASSOLA_IMAGE = 8,         /* image buffer shorter than 32 or than its stated size, or image not sound */
+    PEBRASSOLA_PORT = 9,          /* port serial not in the roster */
+    PEBRASSOLA_FRAME = 10,        /* frame not 8 long, kind not 1 or 2, or bytes 1..3 not zero */
+    PEBRASSOLA_FRAME_TICK = 11,   /* tick above the last tick */
+    PEBRASSOLA_PASSIVE = 12,      /* the node is passive: it has no clock yet */
+    PEBRASSOLA_SHEET_LAYOUT = 14, /* sheet shorter than 4, offset not 4, more than 200 entries, or length not 4 + 12 x count; for
+                                     write_sheet, entries whose length is no multiple of 12, or more than 200 */
+    PEBRASSOLA_SHEET_PACK = 15,   /* a pack number of the sheet is 0 or stands twice */
+    PEBRASSOLA_SHEET_TICKS = 16   /* an entry's first tick is above its end */
 };
 
 /* The number of a call, and how many records stand at the front of the output. */
@@ -56,6 +72,25 @@ struct pebrassola_answer {
 struct pebrassola_reading {
     uint32_t number;
     uint32_t clock;
+};
+
+/* The number of a call, and a licence of enum pebrassola_licences: 0 unless the number is 0. */
+struct pebrassola_licence {
+    uint32_t number;
+    uint32_t licence;
+};
+
+/* The number of a call, and how many bytes were written at the front of the output: 0 unless the number is 0. */
+struct pebrassola_written {
+    uint32_t number;
+    uint32_t written;
+};
+
+/* What a sheet grants a pack at the tick that a node's clock has. A pack may be used while it is in force, and only then. */
+enum pebrassola_licences {
+    PEBRASSOLA_NOT_LICENSED = 0, /* no entry of the sheet has this pack number */
+    PEBRASSOLA_NOT_IN_FORCE = 1, /* on the sheet, and the clock is below first, or end or above */
+    PEBRASSOLA_IN_FORCE = 2      /* on the sheet, and first <= clock < end */
 };
 
 /*
@@ -76,6 +111,20 @@ struct pebrassola_answer pebrassola_deliver(uint8_t *image, size_t image_length,
 
 /* Reads the clock of an active node. Gives 8, then 12 while the node is passive. */
 struct pebrassola_reading pebrassola_read(const uint8_t *image, size_t image_length);
+
+/*
+ * Says whether a pack of a sheet is in force at the tick that this node's clock has. Entries may stand in any order, and their order
+ * decides nothing. Gives 8, 12, 14, 15, 16 in this order, each looked for in the whole sheet and not in the pack's own entry alone.
+ * Pack 0 is on no sheet. Nothing is written.
+ */
+struct pebrassola_licence pebrassola_pack(const uint8_t *sheet, size_t sheet_length, uint32_t pack, const uint8_t *image,
+                                          size_t image_length);
+
+/*
+ * Writes a sheet of entries that stand one behind the other, in any order and without a header: count, offset, then the entries in
+ * ascending pack number. Gives 14, 15, 16, then 7. Bytes behind the sheet stay.
+ */
+struct pebrassola_written pebrassola_write_sheet(const uint8_t *entries, size_t entries_length, uint8_t *out, size_t out_length);
 
 #ifdef __cplusplus
 }

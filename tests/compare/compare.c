@@ -1,31 +1,17 @@
 /*
  * Feeds the proved calls and the plain model the same calls and compares numbers, counts and every byte of every buffer, with guard
- * bytes around each: long valid runs with faulty senders, random images, every single-bit damage of sound images, truncated and
- * over-long buffers, empty ones with a pointer that may not be read, forms, frames and ports of all kinds. Fixed seed. Prints the calls
- * and the differences; ends with status 1 where there is one, or where too little was compared.
+ * bytes around each: nodes.c boot, deliver and read, sheets.c pack and write_sheet. Fixed seed. Prints the calls and the differences;
+ * ends with status 1 where there is one, or where too little was compared.
  */
-#define _DEFAULT_SOURCE
+#include "compare.h"
+
 #include <stdio.h>
 #include <string.h>
-#include <sys/mman.h>
 
-#include "pebrassola.h"
-#include "model.h"
-#include "words.h"
-
-enum { GUARD = 16, MOST = 1100 };
-
-/* one lent buffer: guard, bytes, guard */
-struct lent {
-    uint8_t all[MOST + 2 * GUARD];
-    size_t length;
-};
-
-static unsigned long calls, differences, sound_images;
-static uint8_t *nowhere; /* where an empty buffer is said to lie: no pointer unless a test says so */
+static unsigned long calls, differences;
 static uint64_t seed = 0x9E3779B97F4A7C15u;
 
-static uint32_t any(uint32_t below)
+uint32_t any(uint32_t below)
 {
     seed ^= seed << 13;
     seed ^= seed >> 7;
@@ -33,271 +19,35 @@ static uint32_t any(uint32_t below)
     return (uint32_t)((seed >> 16) % below);
 }
 
-static uint8_t *body(struct lent *b)
+void shuffle(uint8_t *items, unsigned count, size_t bytes)
 {
-    return b->all + GUARD;
+    uint8_t held[16];
+    for (unsigned i = count; i > 1; i--) {
+        uint8_t *last = items + bytes * (i - 1), *other = items + bytes * any(i);
+        memcpy(held, last, bytes);
+        memmove(last, other, bytes);
+        memcpy(other, held, bytes);
+    }
 }
 
-/* the pointer that a call is handed */
-static uint8_t *place(struct lent *b)
+void hold(const char *fact, int holds)
 {
-    return b->length ? body(b) : nowhere;
+    if (holds) return;
+    differences++;
+    if (differences <= 10) printf("differs: %s, call %lu\n", fact, calls);
 }
 
-static void lend(struct lent *b, const uint8_t *bytes, size_t length)
-{
-    memset(b->all, 0xA5, sizeof b->all);
-    if (length) memcpy(body(b), bytes, length);
-    b->length = length;
-}
-
-static void check(const char *call, int same)
+void check(const char *call, int same)
 {
     calls++;
-    if (!same) {
-        differences++;
-        if (differences <= 10) printf("differs: %s, call %lu\n", call, calls);
-    }
-}
-
-/* ---- the three calls, on copies; the image that the model leaves is kept */
-
-/* what the archive is lent, and what the model is */
-static struct lent image, image2, out, out2, in, in2;
-static uint8_t filler[MOST];
-
-static void lend_both(struct lent *a, struct lent *b, const uint8_t *bytes, size_t length)
-{
-    lend(a, bytes, length);
-    lend(b, bytes, length);
-}
-
-static void lend_all(const uint8_t *given, size_t length, const uint8_t *kept, size_t i_length, size_t o_length)
-{
-    lend_both(&in, &in2, given, length);
-    lend_both(&image, &image2, kept, i_length);
-    lend_both(&out, &out2, filler, o_length);
-}
-
-static int same_bytes(const struct lent *a, const struct lent *b)
-{
-    return memcmp(a->all, b->all, sizeof a->all) == 0;
-}
-
-static uint32_t compare(const char *call, uint32_t number, uint32_t value, struct model_result m, uint8_t *kept)
-{
-    check(call, number == m.number && value == m.value && same_bytes(&image, &image2) && same_bytes(&out, &out2) && same_bytes(&in, &in2));
-    if (image2.length) memcpy(kept, body(&image2), image2.length);
-    return m.number;
-}
-
-static uint32_t boot(const uint8_t *f, size_t f_length, uint8_t *kept, size_t i_length, size_t o_length)
-{
-    struct pebrassola_answer r;
-    struct model_result m;
-    lend_all(f, f_length, kept, i_length, o_length);
-    r = pebrassola_boot(place(&in), f_length, place(&image), i_length, place(&out), o_length);
-    m = model_boot(place(&in2), f_length, place(&image2), i_length, place(&out2), o_length);
-    return compare("boot", r.number, r.records, m, kept);
-}
-
-static uint32_t deliver(uint8_t *kept, size_t i_length, uint32_t port, const uint8_t *fr, size_t fr_length, size_t o_length)
-{
-    struct pebrassola_answer r;
-    struct model_result m;
-    lend_all(fr, fr_length, kept, i_length, o_length);
-    r = pebrassola_deliver(place(&image), i_length, port, place(&in), fr_length, place(&out), o_length);
-    m = model_deliver(place(&image2), i_length, port, place(&in2), fr_length, place(&out2), o_length);
-    return compare("deliver", r.number, r.records, m, kept);
-}
-
-static uint32_t read_clock(uint8_t *kept, size_t i_length)
-{
-    struct pebrassola_reading r;
-    struct model_result m;
-    lend_all(filler, 0, kept, i_length, 0);
-    r = pebrassola_read(place(&image), i_length);
-    m = model_read(place(&image2), i_length);
-    return compare("read", r.number, r.clock, m, kept);
-}
-
-/* ---- what is fed */
-
-static size_t make_form(uint8_t *f, unsigned n, unsigned faults)
-{
-    f[0] = (uint8_t)n;
-    f[1] = (uint8_t)faults;
-    f[2] = 0;
-    f[3] = 8;
-    for (unsigned i = 0; i < n; i++) put4(f + 8 + 4 * i, 1 + i * 7919u + (any(2) ? 0x80000000u : 0));
-    for (unsigned i = n; i > 1; i--) {
-        uint8_t t[4];
-        unsigned j = any(i);
-        memcpy(t, f + 8 + 4 * (i - 1), 4);
-        memcpy(f + 8 + 4 * (i - 1), f + 8 + 4 * j, 4);
-        memcpy(f + 8 + 4 * j, t, 4);
-    }
-    memcpy(f + 4, f + 8 + 4 * any(n), 4);
-    return 8 + 4 * (size_t)n;
-}
-
-static void make_frame(uint8_t *b, const uint8_t *kept)
-{
-    static const uint32_t far[] = {0, 1, 2, 62, 63, 64, 65, 66, 1000, 3999999998u, 3999999999u, 4000000000u, 4000000001u, 0xFFFFFFFFu};
-    uint32_t k = get4(kept + 8), tick;
-    memset(b, 0, 8);
-    b[0] = (uint8_t)(1 + any(2));
-    switch (any(8)) {
-    case 0: tick = far[any(sizeof far / sizeof far[0])]; break;
-    case 1: tick = k + far[any(9)]; break;
-    case 2: tick = k - far[any(9)]; break;
-    default: tick = k + any(5) - (k > 1 ? 2 : 0); break;
-    }
-    put4(b + 4, tick);
-    if (any(50) == 0) b[any(4)] = (uint8_t)any(256);
-}
-
-static void run(unsigned n, unsigned faults, unsigned steps)
-{
-    uint8_t f[MOST], kept[MOST], fr[16];
-    size_t size = 32 + 28 * (size_t)n + any(4), f_length = make_form(f, n, faults);
-    for (size_t i = 0; i < size; i++) kept[i] = (uint8_t)any(256);
-    boot(f, f_length, kept, size, 192 + any(9));
-    for (unsigned s = 0; s < steps; s++) {
-        uint32_t port = get4(f + 8 + 4 * any(n));
-        if (any(40) == 0) port = any(3) ? any(100) : 0;
-        make_frame(fr, kept);
-        deliver(kept, size, port, fr, any(60) ? 8 : any(12), any(60) ? 192 + any(9) : any(193));
-        if (s % 4 == 0) read_clock(kept, size);
-    }
-}
-
-/* a set around the tick `base`: empty, thick or thin */
-static void make_set(uint8_t *b, uint32_t base)
-{
-    uint32_t top = base > 4 && base < 3999999990u ? base - 4 + any(7) : base;
-    uint64_t mask = (uint64_t)any(0x80000000u) << 33 ^ (uint64_t)any(0x80000000u) << 2 ^ any(4);
-    if (any(2)) mask &= mask >> 7 & mask >> 13;
-    mask |= 1;
-    if (top < 63) mask &= ((uint64_t)1 << (top + 1)) - 1;
-    if (any(5) == 0) top = 0, mask = 0;
-    put4(b, top);
-    put4(b + 4, (uint32_t)(mask >> 32));
-    put4(b + 8, (uint32_t)mask);
-}
-
-/* an image of right layout with any sets; some are sound, and those are delivered to */
-static void random_image(unsigned n, unsigned faults)
-{
-    static const uint32_t bases[] = {0, 1, 2, 3, 10, 62, 63, 64, 65, 5000, 3999999999u, 4000000000u};
-    uint8_t f[MOST], kept[MOST], fr[16];
-    size_t size = 32 + 28 * (size_t)n, f_length = make_form(f, n, faults);
-    uint32_t base = bases[any(sizeof bases / sizeof bases[0])], k = base + any(4), last;
-    boot(f, f_length, kept, size, 192);
-    for (unsigned i = 0; i < n; i++)
-        for (unsigned kind = 0; kind < 2; kind++) make_set(kept + 36 + 28 * i + 12 * kind, base);
-    if (k > 4000000000u && any(20)) k = 4000000000u;
-    last = k && any(3) == 0 ? k - 1 : k;
-    kept[2] = any(4) != 0;
-    put4(kept + 8, k);
-    put4(kept + 12, last);
-    if (read_clock(kept, size) != 8) sound_images++;
-    for (unsigned s = 0; s < 4; s++) {
-        make_frame(fr, kept);
-        deliver(kept, size, get4(f + 8 + 4 * any(n)), fr, 8, 192);
-    }
-}
-
-static void damage(unsigned n, unsigned faults, unsigned steps)
-{
-    uint8_t f[MOST], kept[MOST], hurt[MOST], fr[16];
-    size_t size = 32 + 28 * (size_t)n, f_length = make_form(f, n, faults);
-    memset(kept, 0, sizeof kept);
-    boot(f, f_length, kept, size, 192);
-    for (unsigned s = 0; s < steps; s++) {
-        make_frame(fr, kept);
-        deliver(kept, size, get4(f + 8 + 4 * any(n)), fr, 8, 192);
-    }
-    for (size_t bit = 0; bit < 8 * size; bit++) {
-        memcpy(hurt, kept, size);
-        hurt[bit / 8] ^= (uint8_t)(1 << bit % 8);
-        read_clock(hurt, size);
-        make_frame(fr, kept);
-        deliver(hurt, size, get4(f + 8 + 4 * any(n)), fr, 8, 192);
-    }
-    for (size_t length = 0; length <= size + 3; length++) {
-        memcpy(hurt, kept, size + 4);
-        read_clock(hurt, length);
-        deliver(hurt, length, get4(f + 8), fr, 8, 192);
-        deliver(hurt, length, get4(f + 8), fr, 8, 191);
-    }
-    for (size_t length = 0; length <= 12; length++) deliver(kept, size, get4(f + 8), fr, length, 192);
-}
-
-static void forms(unsigned rounds)
-{
-    uint8_t f[MOST], kept[MOST];
-    memset(kept, 7, sizeof kept);
-    for (unsigned r = 0; r < rounds; r++) {
-        unsigned n = 1 + any(34), faults = any(3) ? any(n) / 3 : any(256);
-        size_t length = make_form(f, n, faults), size = 32 + 28 * (size_t)n;
-        switch (any(8)) {
-        case 0: put4(f + 8 + 4 * any(n), 0); break;
-        case 1: memcpy(f + 8 + 4 * any(n), f + 8 + 4 * any(n), 4); break;
-        case 2: put4(f + 4, any(3)); break;
-        case 3: f[any(4)] = (uint8_t)any(256); break;
-        case 4: length = any((uint32_t)length + 6); break;
-        default: break;
-        }
-        boot(f, length, kept, any(4) ? size : any((uint32_t)size + 40), any(4) ? 192 : any(200));
-    }
-}
-
-/*
- * Each buffer of each call empty, alone and together with others. The header allows any pointer for an empty one: none, the least and
- * the greatest address, a page that may not be read.
- */
-static void empty_buffers(unsigned n, unsigned faults)
-{
-    enum { PAGE = 65536 };
-    uint8_t *page = mmap(NULL, PAGE, PROT_NONE, MAP_PRIVATE | MAP_ANONYMOUS, -1, 0);
-    uint8_t *pointers[] = {NULL, (uint8_t *)1, page, (uint8_t *)UINTPTR_MAX};
-    uint8_t f[MOST], kept[MOST], fr[8] = {2};
-    size_t size = 32 + 28 * (size_t)n, f_length = make_form(f, n, faults);
-    memset(kept, 7, sizeof kept);
-    if (page == MAP_FAILED) check("page", 0);
-    for (unsigned p = 0; p < sizeof pointers / sizeof pointers[0]; p++)
-        for (unsigned empty = 0; empty < 8; empty++) {
-            nowhere = NULL;
-            boot(f, f_length, kept, size, 192);
-            nowhere = pointers[p];
-            boot(f, empty & 1 ? 0 : f_length, kept, empty & 2 ? 0 : size, empty & 4 ? 0 : 192);
-            deliver(kept, empty & 2 ? 0 : size, get4(f + 8), fr, empty & 1 ? 0 : 8, empty & 4 ? 0 : 192);
-            read_clock(kept, empty & 2 ? 0 : size);
-        }
-    nowhere = NULL;
-    munmap(page, PAGE);
+    hold(call, same);
 }
 
 int main(void)
 {
-    memset(filler, 0x3C, sizeof filler);
-    forms(20000);
-    for (unsigned n = 1; n <= 32; n++)
-        for (unsigned faults = 0; 3 * faults + 1 <= n; faults++) run(n, faults, n == 4 || n == 7 ? 3000 : 600);
-    for (unsigned round = 0; round < 12; round++) {
-        damage(1, 0, 20 * round);
-        damage(4, 1, 30 * round);
-        damage(4, 0, 30 * round);
-    }
-    for (unsigned round = 0; round < 40; round++) run(1 + any(32), 0, 300);
-    for (unsigned round = 0; round < 20000; round++) {
-        unsigned n = 1 + any(32);
-        random_image(n, any((n + 2) / 3));
-    }
-    empty_buffers(1, 0);
-    empty_buffers(4, 1);
-    empty_buffers(32, 10);
-    printf("compare: %lu calls (%lu random sound images), %lu differences\n", calls, sound_images, differences);
-    return differences != 0 || calls < 200000 || sound_images < 1000;
+    unsigned long sound_images = compare_nodes();
+    struct sheet_calls sheets = compare_sheets();
+    printf("compare: %lu calls (%lu random sound images; %lu calls of sheets, each outcome %lu times or more), %lu differences\n", calls,
+           sound_images, sheets.all, sheets.rarest, differences);
+    return differences != 0 || calls < 600000 || sound_images < 1000 || sheets.all < 200000 || sheets.rarest < 1000;
 }

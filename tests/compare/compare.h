@@ -1,0 +1,40 @@
+/* What the parts of the comparison share: random numbers, the count of calls and differences, nodes to ask, and the parts themselves. */
+#ifndef COMPARE_H
+#define COMPARE_H
+
+#include <stddef.h>
+#include <stdint.h>
+
+/* a random number below this one, the same in each run */
+uint32_t any(uint32_t below);
+
+/* exchanges items of so many bytes at random */
+void shuffle(uint8_t *items, unsigned count, size_t bytes);
+
+/* counts a call, and a difference where the archive's outcome is another than the model's */
+void check(const char *call, int same);
+
+/* counts a difference where a fact about calls that are counted already does not hold */
+void hold(const char *fact, int holds);
+
+/* ---- nodes.c */
+
+/* every comparison of boot, deliver and read; gives how many random images were sound */
+unsigned long compare_nodes(void);
+
+/* boots a node of n controllers in any order, with its form, and lets it take so many frames; gives the image's size */
+size_t live(uint8_t *form, uint8_t *kept, unsigned n, unsigned faults, unsigned frames);
+
+/* writes mode, k and last echo over those of an image */
+void set_clock(uint8_t *kept, unsigned mode, uint32_t k, uint32_t last_echo);
+
+/* ---- sheets.c */
+
+struct sheet_calls {
+    unsigned long all, rarest; /* calls of both kinds, and how often the outcome came that came least */
+};
+
+/* every comparison of pack and write_sheet */
+struct sheet_calls compare_sheets(void);
+
+#endif

@@ -1,5 +1,6 @@
 /*
- * The header against the archive, by answers that document 01 settles and with no model between: W1 to W9, and a call for each number.
+ * The header against the archive, by answers that the papers settle and with no model between: W1 to W9 of document 01, a sheet for A1
+ * of document 02, and a call for each number.
  * The archive puts an answer's fields where its own struct has them, and a C compiler knows only the header's struct: so each field is
  * looked at where its value is known and the other field's is another. Sizes, places and numbers are looked at when this is compiled,
  * unless CALLS_ALONE is defined: then the calls have to notice by themselves. Prints what is wrong and a count; ends with status 1
@@ -21,6 +22,12 @@ SETTLED(answer, sizeof(struct pebrassola_answer) == 8);
 FIELD(pebrassola_reading, number, 0);
 FIELD(pebrassola_reading, clock, 4);
 SETTLED(reading, sizeof(struct pebrassola_reading) == 8);
+FIELD(pebrassola_licence, number, 0);
+FIELD(pebrassola_licence, licence, 4);
+SETTLED(licence, sizeof(struct pebrassola_licence) == 8);
+FIELD(pebrassola_written, number, 0);
+FIELD(pebrassola_written, written, 4);
+SETTLED(written, sizeof(struct pebrassola_written) == 8);
 
 /* 01, "Numbers given back", by the names of their rows */
 SETTLED(numbers_of_all, PEBRASSOLA_DONE == 0);
@@ -29,6 +36,12 @@ SETTLED(more_numbers_of_forms, PEBRASSOLA_FORM_TWICE == 4 && PEBRASSOLA_FORM_OWN
 SETTLED(numbers_of_rooms, PEBRASSOLA_IMAGE_ROOM == 6 && PEBRASSOLA_OUT_ROOM == 7);
 SETTLED(numbers_of_images, PEBRASSOLA_IMAGE == 8 && PEBRASSOLA_PASSIVE == 12);
 SETTLED(numbers_of_frames, PEBRASSOLA_PORT == 9 && PEBRASSOLA_FRAME == 10 && PEBRASSOLA_FRAME_TICK == 11);
+
+/* A1, in the order that it names them */
+SETTLED(numbers_of_sheets, PEBRASSOLA_SHEET_LAYOUT == 14 && PEBRASSOLA_SHEET_PACK == 15 && PEBRASSOLA_SHEET_TICKS == 16);
+SETTLED(licences, PEBRASSOLA_NOT_LICENSED == 0 && PEBRASSOLA_NOT_IN_FORCE == 1 && PEBRASSOLA_IN_FORCE == 2);
+SETTLED(sheets, PEBRASSOLA_SHEET_BYTES(0) == 4 && PEBRASSOLA_SHEET_BYTES(200) == 2404);
+SETTLED(entries, PEBRASSOLA_ENTRY_BYTES == 12 && PEBRASSOLA_MOST_ENTRIES == 200);
 
 /* 01, "Layouts" and "Limits" */
 SETTLED(forms, PEBRASSOLA_FORM_BYTES(4) == 24 && PEBRASSOLA_MOST_CONTROLLERS == 32);
@@ -48,7 +61,15 @@ static void expect(const char *call, uint32_t number, uint32_t value, uint32_t k
     answers++;
     if (number == known && value == known_value) return;
     wrong++;
-    printf("%s: number %u with %u, and 01 says %u with %u\n", call, number, value, known, known_value);
+    printf("%s: number %u with %u, and the papers say %u with %u\n", call, number, value, known, known_value);
+}
+
+static void expect_bytes(const char *call, size_t from, const uint8_t *known, size_t length)
+{
+    answers++;
+    if (memcmp(out + from, known, length) == 0) return;
+    wrong++;
+    printf("%s: the output from byte %u on is not what the papers say\n", call, (unsigned)from);
 }
 
 static void expect_record(const char *call, unsigned place, uint32_t to, unsigned kind, uint32_t tick)
@@ -57,10 +78,7 @@ static void expect_record(const char *call, unsigned place, uint32_t to, unsigne
     put4(record, to);
     record[4] = (uint8_t)kind;
     put4(record + 8, tick);
-    answers++;
-    if (memcmp(out + 12 * place, record, sizeof record) == 0) return;
-    wrong++;
-    printf("%s: record %u is not what 01 says\n", call, place);
+    expect_bytes(call, 12 * place, record, sizeof record);
 }
 
 /* boots the node of the whole case (n = 4, f = 1, own serial 11) by its form with one byte set */
@@ -139,10 +157,78 @@ static void refusals(void)
     deliver("the last tick", 22, ECHO, 4000000000u, 0, 0);
 }
 
+/* ---- A1 */
+
+/* asks a pack by the sheet (7 from tick 10, ended at 20; 9 from tick 15, ended at 15) with one byte set */
+static void pack(const char *call, unsigned place, unsigned byte, uint32_t asked, uint32_t known, uint32_t known_licence)
+{
+    uint8_t sheet[28] = {0, 2, 0, 4, 0, 0, 0, 7, 0, 0, 0, 10, 0, 0, 0, 20, 0, 0, 0, 9, 0, 0, 0, 15, 0, 0, 0, 15};
+    struct pebrassola_licence l;
+    sheet[place] = (uint8_t)byte;
+    l = pebrassola_pack(sheet, sizeof sheet, asked, image, size);
+    expect(call, l.number, l.licence, known, known_licence);
+}
+
+/* the same by the sheet as it is, at a tick */
+static void pack_at(const char *call, uint32_t clock, uint32_t asked, uint32_t known_licence)
+{
+    put4(image + 8, clock);
+    put4(image + 12, clock);
+    pack(call, 0, 0, asked, 0, known_licence);
+}
+
+/* writes a sheet of the same two entries, given in descending pack number, with one byte set */
+static void write_sheet(const char *call, unsigned place, unsigned byte, size_t length, uint32_t known)
+{
+    uint8_t entries[24] = {0, 0, 0, 9, 0, 0, 0, 15, 0, 0, 0, 15, 0, 0, 0, 7, 0, 0, 0, 10, 0, 0, 0, 20};
+    struct pebrassola_written w;
+    entries[place] = (uint8_t)byte;
+    w = pebrassola_write_sheet(entries, length, out, room);
+    expect(call, w.number, w.written, known, known == 0 ? 28 : 0);
+}
+
+static void sheets(void)
+{
+    static const uint8_t known[] = {0, 2, 0, 4, 0, 0, 0, 7, 0, 0, 0, 10, 0, 0, 0, 20, 0, 0, 0, 9, 0, 0, 0, 15, 0, 0, 0, 15, 0xEE};
+    static const uint8_t unchanged[] = {0xEE, 0xEE, 0xEE, 0xEE};
+    boot("a fresh node", 0, 4, 0);
+    pack("passive", 0, 0, 7, 12, 0);
+    pack("passive, offset 5", 3, 5, 7, 12, 0);
+    image[2] = 1; /* active; a node that holds nothing is sound with any clock */
+    pack_at("before first", 9, 7, PEBRASSOLA_NOT_IN_FORCE);
+    pack_at("at first", 10, 7, PEBRASSOLA_IN_FORCE);
+    pack_at("before end", 19, 7, PEBRASSOLA_IN_FORCE);
+    pack_at("at end", 20, 7, PEBRASSOLA_NOT_IN_FORCE);
+    pack_at("first is end", 15, 9, PEBRASSOLA_NOT_IN_FORCE);
+    pack_at("not on the sheet", 15, 8, PEBRASSOLA_NOT_LICENSED);
+    pack_at("pack 0", 15, 0, PEBRASSOLA_NOT_LICENSED);
+    pack("offset 5", 3, 5, 7, 14, 0);
+    pack("three entries", 1, 3, 7, 14, 0);
+    pack("an entry of pack 0", 7, 0, 9, 15, 0);
+    pack("9 twice", 7, 9, 9, 15, 0);
+    pack("first 21, end 20", 11, 21, 9, 16, 0);
+    size = 143;
+    pack("image of 143 bytes", 0, 0, 7, 8, 0);
+    size = 144;
+    memset(out, 0xEE, sizeof out);
+    write_sheet("23 bytes of entries", 0, 0, 23, 14);
+    write_sheet("7 twice", 3, 7, 24, 15);
+    write_sheet("first 21, end 20", 19, 21, 24, 16);
+    room = 27;
+    write_sheet("output of 27 bytes", 0, 0, 24, 7);
+    expect_bytes("after refusals", 0, unchanged, sizeof unchanged);
+    room = 28;
+    write_sheet("output of 28 bytes", 0, 0, 24, 0);
+    room = 192;
+    write_sheet("two entries", 0, 0, 24, 0);
+    expect_bytes("two entries", 0, known, sizeof known);
+}
+
 int main(void)
 {
     story();
     refusals();
+    sheets();
     printf("header: %u answers, %u wrong\n", answers, wrong);
     return wrong != 0;
 }

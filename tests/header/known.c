@@ -15,19 +15,15 @@
 #ifndef CALLS_ALONE
 #define SETTLED(name, fact) typedef char name##_is_settled[(fact) ? 1 : -1]
 #define FIELD(type, field, at) SETTLED(type##_##field, offsetof(struct type, field) == (at) && sizeof(((struct type *)0)->field) == 4)
+#define ANSWER(type, field) \
+    FIELD(type, number, 0); \
+    FIELD(type, field, 4);  \
+    SETTLED(type, sizeof(struct type) == 8)
 
-FIELD(pebrassola_answer, number, 0);
-FIELD(pebrassola_answer, records, 4);
-SETTLED(answer, sizeof(struct pebrassola_answer) == 8);
-FIELD(pebrassola_reading, number, 0);
-FIELD(pebrassola_reading, clock, 4);
-SETTLED(reading, sizeof(struct pebrassola_reading) == 8);
-FIELD(pebrassola_licence, number, 0);
-FIELD(pebrassola_licence, licence, 4);
-SETTLED(licence, sizeof(struct pebrassola_licence) == 8);
-FIELD(pebrassola_written, number, 0);
-FIELD(pebrassola_written, written, 4);
-SETTLED(written, sizeof(struct pebrassola_written) == 8);
+ANSWER(pebrassola_answer, records);
+ANSWER(pebrassola_reading, clock);
+ANSWER(pebrassola_licence, licence);
+ANSWER(pebrassola_written, written);
 
 /* 01, "Numbers given back", by the names of their rows */
 SETTLED(numbers_of_all, PEBRASSOLA_DONE == 0);

@@ -1,16 +1,21 @@
 /*
  * A truck with four controllers on a bus in memory, powered up one after another. Three run Pebrassola; the fourth lies: it answers
- * whatever it hears with frames of its own making, another one to each. Prints a line whenever a clock moves, until the three are
- * active and ten ticks on.
+ * whatever it hears with frames of its own making, another one to each. Prints a line whenever a clock moves and whenever a pack of
+ * the truck's sheet starts or ends on a controller, until the three are active and ten ticks on.
  */
 #include <stdio.h>
 #include <string.h>
 
 #include "pebrassola.h"
 
-enum { NODES = 4, LIAR = 3, PLACES = 4096, POWER_UP_EVERY = 12 };
+enum { NODES = 4, LIAR = 3, PLACES = 4096, POWER_UP_EVERY = 12, PACKS = 2 };
 
 static const uint32_t serials[NODES] = {1107, 2040, 3313, 4096};
+
+/* the truck's licences as the dealer noted them, in no order: in force from tick first until the tick before end */
+static const struct {
+    uint32_t pack, first, end;
+} sold[PACKS] = {{52, 3, 6}, {17, 5, 9}};
 
 struct message {
     unsigned from, to;
@@ -18,11 +23,12 @@ struct message {
 };
 
 struct controller {
-    int powered;
+    int powered, uses[PACKS];
     uint8_t image[PEBRASSOLA_IMAGE_BYTES(NODES)];
 };
 
 static struct controller nodes[NODES];
+static uint8_t sheet[PEBRASSOLA_SHEET_BYTES(PACKS)];
 static struct message bus[PLACES];
 static unsigned first, waiting;
 
@@ -66,6 +72,28 @@ static int power_up(unsigned i)
     nodes[i].powered = 1;
     send_records(i, out, a.records);
     return 1;
+}
+
+/* the truck has one sheet, and each controller reads it */
+static int write_sheet(void)
+{
+    uint8_t entries[PACKS * PEBRASSOLA_ENTRY_BYTES], *entry = entries;
+    struct pebrassola_written w;
+    for (unsigned p = 0; p < PACKS; p++, entry += PEBRASSOLA_ENTRY_BYTES) {
+        put_word(entry, sold[p].pack);
+        put_word(entry + 4, sold[p].first);
+        put_word(entry + 8, sold[p].end);
+    }
+    w = pebrassola_write_sheet(entries, sizeof entries, sheet, sizeof sheet);
+    if (w.number != PEBRASSOLA_DONE) return printf("sheet refused with %u\n", w.number), 0;
+    return 1;
+}
+
+/* a refusal is no licence: a passive node, for one, has no clock yet */
+static int may_use(const struct controller *c, uint32_t pack)
+{
+    struct pebrassola_licence l = pebrassola_pack(sheet, sizeof sheet, pack, c->image, sizeof c->image);
+    return l.number == PEBRASSOLA_DONE && l.licence == PEBRASSOLA_IN_FORCE;
 }
 
 /* to each controller another story: an init or an echo of some tick near the one heard */
@@ -112,9 +140,23 @@ static uint32_t show(unsigned step)
     return slowest;
 }
 
+/* prints where a pack starts or ends */
+static void show_packs(void)
+{
+    for (unsigned i = 0; i < LIAR; i++)
+        for (unsigned p = 0; p < PACKS; p++) {
+            int now = may_use(&nodes[i], sold[p].pack);
+            if (now == nodes[i].uses[p]) continue;
+            printf("       pack %u %s on %u at tick %u\n", sold[p].pack, now ? "starts" : "ends", serials[i],
+                   pebrassola_read(nodes[i].image, sizeof nodes[i].image).clock);
+            nodes[i].uses[p] = now;
+        }
+}
+
 int main(void)
 {
     uint32_t goal = 0;
+    if (!write_sheet()) return 1;
     for (unsigned step = 0; step < 100000; step++) {
         uint32_t slowest;
         if (step % POWER_UP_EVERY == 0 && step / POWER_UP_EVERY < LIAR && !power_up(step / POWER_UP_EVERY)) return 1;
@@ -125,6 +167,7 @@ int main(void)
             if (!take(&m)) return 1;
         }
         slowest = show(step);
+        show_packs();
         if (slowest && !goal) goal = slowest + 10;
         if (goal && slowest >= goal) return 0;
     }

@@ -1,7 +1,8 @@
 /*
  * What a call costs: nanoseconds of deliver and read at n = 4, 7 and 32 over a recorded run, beside the plain C model of
- * tests/compare, in one run of one program, as ratios; the dearest sound image that we know for one deliver; and the deepest stack
- * of each call, by painting the stack that it runs on. Prints the table of docs/PERFORMANCE.md.
+ * tests/compare, in one run of one program, as ratios; the dearest sound image that we know for one deliver; the same for sheets of 1,
+ * 20 and 200 entries; and the deepest stack of each call, by painting the stack that it runs on. Prints the tables of
+ * docs/PERFORMANCE.md.
  */
 #define _XOPEN_SOURCE 600
 #include <stdio.h>
@@ -13,7 +14,7 @@
 #include "../tests/compare/words.h"
 #include "pebrassola.h"
 
-enum { MOST = 32, EVENTS = 4096, PLACES = 65536, PAINTED = 1 << 16 };
+enum { MOST = 32, EVENTS = 4096, PLACES = 65536, PAINTED = 1 << 16, ROUNDS = 9 };
 
 struct event {
     uint32_t port;
@@ -22,6 +23,8 @@ struct event {
 
 typedef struct model_result deliver_call(uint8_t *, size_t, uint32_t, const uint8_t *, size_t, uint8_t *, size_t);
 typedef struct model_result read_call(const uint8_t *, size_t);
+typedef struct model_result pack_call(const uint8_t *, size_t, uint32_t, const uint8_t *, size_t);
+typedef struct model_result write_call(const uint8_t *, size_t, uint8_t *, size_t);
 
 static struct event events[EVENTS];
 static uint8_t fresh[PEBRASSOLA_IMAGE_BYTES(MOST)], image[sizeof fresh], out[PEBRASSOLA_OUT_BYTES];
@@ -39,6 +42,20 @@ static struct model_result proved_read(const uint8_t *i, size_t i_length)
 {
     struct pebrassola_reading a = pebrassola_read(i, i_length);
     struct model_result r = {a.number, a.clock};
+    return r;
+}
+
+static struct model_result proved_pack(const uint8_t *s, size_t s_length, uint32_t pack, const uint8_t *i, size_t i_length)
+{
+    struct pebrassola_licence a = pebrassola_pack(s, s_length, pack, i, i_length);
+    struct model_result r = {a.number, a.licence};
+    return r;
+}
+
+static struct model_result proved_write_sheet(const uint8_t *e, size_t e_length, uint8_t *o, size_t o_length)
+{
+    struct pebrassola_written a = pebrassola_write_sheet(e, e_length, o, o_length);
+    struct model_result r = {a.number, a.written};
     return r;
 }
 
@@ -112,23 +129,43 @@ static double now(void)
     return 1e9 * (double)t.tv_sec + (double)t.tv_nsec;
 }
 
-/* one delivery of some that a fresh node takes; the least of several rounds, so that what else the machine does counts little */
+/* the least of several rounds, so that what else the machine does counts little */
+static double least = 1e18, started;
+
+static void start_round(void)
+{
+    started = now();
+}
+
+static void end_round(void)
+{
+    double taken = now() - started;
+    if (taken < least) least = taken;
+}
+
+/* one call of so many in the round that took least */
+static double least_call(unsigned calls)
+{
+    double time = least / calls;
+    least = 1e18;
+    return time;
+}
+
+/* one delivery of some that a fresh node takes */
 static double time_deliver(deliver_call *deliver, size_t size, const struct event *taken, unsigned count, unsigned rounds)
 {
-    double least = 1e18;
     for (unsigned round = 0; round < rounds; round++) {
-        double start;
         memcpy(image, fresh, size);
-        start = now();
+        start_round();
         for (unsigned e = 0; e < count; e++) sink += deliver(image, size, taken[e].port, taken[e].frame, 8, out, sizeof out).value;
-        if (now() - start < least) least = now() - start;
+        end_round();
     }
-    return least / count;
+    return least_call(count);
 }
 
 static double time_run(deliver_call *deliver, size_t size)
 {
-    return time_deliver(deliver, size, events, EVENTS, 9);
+    return time_deliver(deliver, size, events, EVENTS, ROUNDS);
 }
 
 static double time_dear(deliver_call *deliver, size_t size, const struct event *dear)
@@ -138,13 +175,12 @@ static double time_dear(deliver_call *deliver, size_t size, const struct event *
 
 static double time_read(read_call *read, size_t size)
 {
-    double least = 1e18;
-    for (int round = 0; round < 9; round++) {
-        double start = now();
+    for (int round = 0; round < ROUNDS; round++) {
+        start_round();
         for (unsigned e = 0; e < EVENTS; e++) sink += read(image, size).value;
-        if (now() - start < least) least = now() - start;
+        end_round();
     }
-    return least / EVENTS;
+    return least_call(EVENTS);
 }
 
 /* ---- dear images: every serial holds many ticks far above k, and none of them is held by more than f */
@@ -203,9 +239,84 @@ static unsigned dearest(unsigned n, size_t size)
     return which;
 }
 
+/* ---- sheets, asked by an idle node of four */
+
+enum { ASKING = 4, CLOCK = 50 };
+
+static uint8_t shuffled[PEBRASSOLA_SHEET_BYTES(PEBRASSOLA_MOST_ENTRIES)], ascending[sizeof shuffled], made[sizeof shuffled];
+
+/* the pack of the entry at a place: neighbours are far apart, and each pack from 1 on has its place */
+static uint32_t pack_at(unsigned place, unsigned count)
+{
+    return 1 + place * 77 % count;
+}
+
+/* the same entries in both sheets; the writer makes the one in which they ascend */
+static size_t make_sheets(unsigned count)
+{
+    size_t length = PEBRASSOLA_SHEET_BYTES(count);
+    put4(shuffled, (uint32_t)count << 16 | 4);
+    for (unsigned i = 0; i < count; i++) {
+        uint8_t *entry = shuffled + PEBRASSOLA_SHEET_BYTES(i);
+        put4(entry, pack_at(i, count));
+        put4(entry + 4, CLOCK - i % 3);
+        put4(entry + 8, CLOCK + i % 3);
+    }
+    if (pebrassola_write_sheet(shuffled + 4, length - 4, ascending, length).number != PEBRASSOLA_DONE) puts("the sheet is refused");
+    return length;
+}
+
+static void make_asking(void)
+{
+    boot(ASKING, 0, image);
+    image[2] = 1;
+    put4(image + 8, CLOCK);
+    put4(image + 12, CLOCK);
+}
+
+static double time_pack(pack_call *pack, const uint8_t *sheet, unsigned count)
+{
+    unsigned calls = EVENTS / count;
+    for (int round = 0; round < ROUNDS; round++) {
+        start_round();
+        for (unsigned e = 0; e < calls; e++)
+            sink += pack(sheet, PEBRASSOLA_SHEET_BYTES(count), pack_at(e, count), image, PEBRASSOLA_IMAGE_BYTES(ASKING)).value;
+        end_round();
+    }
+    return least_call(calls);
+}
+
+static double time_write(write_call *write, const uint8_t *sheet, size_t length)
+{
+    enum { CALLS = 16 };
+    for (int round = 0; round < ROUNDS; round++) {
+        start_round();
+        for (unsigned e = 0; e < CALLS; e++) sink += write(sheet + 4, length - 4, made, sizeof made).value;
+        end_round();
+    }
+    return least_call(CALLS);
+}
+
 static void row(const char *what, unsigned n, double proved, double plain)
 {
     printf("| %s | %u | %.0f | %.0f | %.2f |\n", what, n, proved, plain, proved / plain);
+}
+
+static void sheet_rows(void)
+{
+    static const unsigned counts[] = {1, 20, PEBRASSOLA_MOST_ENTRIES};
+    size_t length = 0;
+    make_asking();
+    for (unsigned c = 0; c < 3; c++) {
+        unsigned count = counts[c];
+        length = make_sheets(count);
+        row("pack, ascending", count, time_pack(proved_pack, ascending, count), time_pack(model_pack, ascending, count));
+        row("pack, shuffled", count, time_pack(proved_pack, shuffled, count), time_pack(model_pack, shuffled, count));
+    }
+    row("write_sheet, of ascending", PEBRASSOLA_MOST_ENTRIES, time_write(proved_write_sheet, ascending, length),
+        time_write(model_write_sheet, ascending, length));
+    row("write_sheet, of shuffled", PEBRASSOLA_MOST_ENTRIES, time_write(proved_write_sheet, shuffled, length),
+        time_write(model_write_sheet, shuffled, length));
 }
 
 /* ---- stack */
@@ -241,6 +352,18 @@ static void call_deliver_far(void)
 static void call_read(void)
 {
     sink += pebrassola_read(image, PEBRASSOLA_IMAGE_BYTES(painted_n)).number;
+}
+
+/* the last entry is asked for, by a node that is active after the run: all of the sheet is looked at */
+static void call_pack(void)
+{
+    uint32_t pack = pack_at(PEBRASSOLA_MOST_ENTRIES - 1, PEBRASSOLA_MOST_ENTRIES);
+    sink += pebrassola_pack(shuffled, sizeof shuffled, pack, image, PEBRASSOLA_IMAGE_BYTES(painted_n)).number;
+}
+
+static void call_write_sheet(void)
+{
+    sink += pebrassola_write_sheet(shuffled + 4, sizeof shuffled - 4, made, sizeof made).number;
 }
 
 static unsigned depth(void (*call)(void))
@@ -279,11 +402,17 @@ int main(void)
         plain = time_dear(model_deliver, size, &dear);
         row("deliver, dearest", n, proved, plain);
     }
+    puts("\n| call | entries | proved, ns | plain C, ns | ratio |\n|---|---|---|---|---|");
+    sheet_rows();
     painted_n = 32;
     printf("\n| call | deepest stack, bytes |\n|---|---|\n");
     printf("| boot (with the form's 136 bytes) | %u |\n", depth(call_boot) - depth(call_nothing));
     printf("| deliver, over a recorded run | %u |\n", depth(call_deliver) - depth(call_nothing));
     printf("| deliver, with a jump | %u |\n", depth(call_deliver_far) - depth(call_nothing));
     printf("| read | %u |\n", depth(call_read) - depth(call_nothing));
+    sink = 0;
+    printf("| pack | %u |\n", depth(call_pack) - depth(call_nothing));
+    printf("| write_sheet | %u |\n", depth(call_write_sheet) - depth(call_nothing));
+    if (sink) puts("a sheet is refused");
     return 0;
 }

@@ -1,0 +1,10 @@
+-- The laws and theorems of `packs` that belong to no single function.
+pub mod Ascending
+pub mod Entries
+pub mod Meaning
+pub mod Nearest
+pub mod Order
+pub mod Puts
+pub mod RoundTrip
+pub mod Single
+pub mod Told

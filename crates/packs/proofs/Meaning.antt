@@ -1,0 +1,2 @@
+-- Each number is given exactly when its row of the table applies, and each licence exactly when the entry that has the number says so.
+-- Assumes nothing.

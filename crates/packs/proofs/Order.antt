@@ -1,0 +1,2 @@
+-- The order of entries decides nothing: a sheet whose entries are reordered gets the same number and every question the same answer.
+-- Assumes nothing.

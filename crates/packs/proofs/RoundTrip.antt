@@ -1,0 +1,2 @@
+-- What the writer of a sheet wrote its reader gives back, and a sheet that ascends is written again byte for byte.
+-- Assumes nothing.

@@ -1,0 +1,2 @@
+-- Each contract of a reader, a writer or a call of a sheet allows one answer.
+-- Assumes nothing.

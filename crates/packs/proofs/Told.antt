@@ -1,0 +1,2 @@
+-- What a number 0 of a sheet says: its layout and its entries are in order.
+-- Assumes nothing.

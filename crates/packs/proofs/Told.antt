@@ -1,2 +1,74 @@
--- What a number 0 of a sheet says: its layout and its entries are in order.
+-- Laws of what is told with a number: a refusal's number is never 0, so what the reader of a sheet tells says whether the sheet is taken;
+-- and a sheet that is taken has the entries that its count says, inside its bytes.
 -- Assumes nothing.
+use mathlib.Core.Path.{_≡_, refl, sym, ap, _∙_}
+use mathlib.Core.List.{List}
+use mathlib.Core.Bool.{Bool, true, false, cond, not, _||_, true≢false}
+use Prim.Native.Nat.{ℕ}
+use native.Mathlib.Omega.{arith}
+use lib.ListN.{length}
+use lib.Dec.{ltb, eqb}
+use borrow.Author.Tests.{ltb-false, eqb-true, not-false}
+use Rattle.forms.proofs.Meaning.{told}
+use Rattle.packs.specs.Number.{numberOf}
+use Rattle.packs.specs.Sheet.{entriesPlace, mostEntries, sheetSize, countOf, offsetOf, entriesOf, misplaced, Lines}
+use Rattle.packs.specs.Sheet.{entriesNumber, sheetNumber, SheetTold, sheetTold, refusedSheet}
+use Rattle.packs.specs.declared.answer.Refusal.{Refusal}
+use Rattle.packs.specs.declared.answer.Refusal.the-variants.{Layout, Pack, Ticks, Room}
+
+-- no refusal has number 0
+pub refusal : (why : Refusal) → eqb (numberOf why) 0 ≡ false
+refusal Layout = refl
+refusal Pack = refl
+refusal Ticks = refl
+refusal Room = refl
+
+-- two tests of which neither passes
+neither : (s t : Bool) → (s || t) ≡ false → (s ≡ false) × (t ≡ false)
+neither true t e = absurd (true≢false e)
+neither false t e = (refl, e)
+
+module _ (b : List ℕ) where
+  -- ---- from the number to what is told
+
+  pub sheet-refused : (why : Refusal) → sheetNumber b ≡ numberOf why → sheetTold b ≡ refusedSheet (numberOf why)
+  unfolding sheetTold
+  sheet-refused why e = rw (e, refusal why)
+
+  pub sheet-taken : sheetNumber b ≡ 0 → sheetTold b ≡ record { number = 0; count = countOf b }
+  unfolding sheetTold
+  sheet-taken e = rw e
+
+  -- ---- and back: the number that is told is the sheet's own
+
+  pub sheet-told : sheetTold b .number ≡ sheetNumber b
+  unfolding sheetTold
+  sheet-told = told (λ (t : SheetTold). t .number) _ _ (sheetNumber b) refl refl
+
+  pub told-refused : (why : Refusal) → refusedSheet (numberOf why) ≡ sheetTold b → sheetNumber b ≡ numberOf why
+  told-refused why e = sym sheet-told ∙ ap (λ (t : SheetTold). t .number) (sym e)
+
+  pub told-taken : (n : ℕ) → _≡_ {A = SheetTold} (record { number = 0; count = n }) (sheetTold b) → (sheetNumber b ≡ 0) × (n ≡ countOf b)
+  told-taken n e =
+      let z : sheetNumber b ≡ 0 = sym sheet-told ∙ ap (λ (t : SheetTold). t .number) (sym e) in
+      (z, ap (λ (t : SheetTold). t .count) (e ∙ sheet-taken z))
+
+  -- ---- the parts of a sheet that is taken
+
+  -- its layout is right, and its entries are in order
+  pub taken-parts : sheetNumber b ≡ 0 → (misplaced b ≡ false) × (entriesNumber (entriesOf b) ≡ 0)
+  unfolding sheetNumber
+  taken-parts e = go (misplaced b) e
+    where
+      go : (t : Bool) → cond t 14 (entriesNumber (entriesOf b)) ≡ 0 → (t ≡ false) × (entriesNumber (entriesOf b) ≡ 0)
+      go true z = absurd (omega arith)
+      go false z = (refl, z)
+
+  -- as many entries as its count says, inside its bytes
+  pub sheet-lines : sheetNumber b ≡ 0 → Lines b entriesPlace (countOf b)
+  sheet-lines z =
+      let front = ltb (length b) entriesPlace || not (eqb (offsetOf b) entriesPlace) in
+      let size = neither (front || ltb mostEntries (countOf b)) _ (taken-parts z .0) in
+      let few = neither front (ltb mostEntries (countOf b)) (size .0) in
+      let long = eqb-true (length b) (sheetSize (countOf b)) (not-false _ (size .1)) in
+      record { few = ltb-false mostEntries (countOf b) (few .1); inside = omega (arith, long) }

@@ -11,7 +11,6 @@ use fields::field::word;
 use forms::column::count_word;
 use node::calls::read;
 ghost use mathlib.Core.Path.{_≡_};
-ghost use lib.ListN.{length};
 ghost use Rattle.rules.specs.Describe.{lastTick};
 ghost use Rattle.node.specs.Image.{layout};
 ghost use Rattle.packs.specs.Number.{licenceOf};

@@ -1,20 +1,24 @@
 -- Laws of what is told with a number: a refusal's number is never 0, so what the reader of a sheet tells says whether the sheet is taken;
--- and a sheet that is taken has the entries that its count says, inside its bytes.
+-- a sheet that is taken has the entries that its count says, inside its bytes; and what the question tells, by image and sheet.
 -- Assumes nothing.
 use mathlib.Core.Path.{_≡_, refl, sym, ap, _∙_}
 use mathlib.Core.List.{List}
 use mathlib.Core.Bool.{Bool, true, false, cond, not, _||_, true≢false}
-use Prim.Native.Nat.{ℕ}
+use Prim.Native.Nat.{ℕ, zero, suc}
 use native.Mathlib.Omega.{arith}
 use lib.ListN.{length}
-use lib.Dec.{ltb, eqb}
+use lib.Dec.{ltb, eqb, eqb·suc-zero}
 use borrow.Author.Tests.{ltb-false, eqb-true, not-false}
-use Rattle.forms.proofs.Meaning.{told}
+use Rattle.node.specs.Calls.{reading}
+use Rattle.node.specs.Image.{Layout as ImageLayout}
 use Rattle.packs.specs.Number.{numberOf}
+use Rattle.packs.specs.Question.{licence, packNumber, packTold, refusedPack}
 use Rattle.packs.specs.Sheet.{entriesPlace, mostEntries, sheetSize, countOf, offsetOf, entriesOf, misplaced, Lines}
 use Rattle.packs.specs.Sheet.{entriesNumber, sheetNumber, SheetTold, sheetTold, refusedSheet}
 use Rattle.packs.specs.declared.answer.Refusal.{Refusal}
 use Rattle.packs.specs.declared.answer.Refusal.the-variants.{Layout, Pack, Ticks, Room}
+use Rattle.forms.proofs.Meaning.{told}
+use Rattle.node.proofs.Outcomes.{read-told}
 
 -- no refusal has number 0
 pub refusal : (why : Refusal) → eqb (numberOf why) 0 ≡ false
@@ -72,3 +76,22 @@ module _ (b : List ℕ) where
       let few = neither front (ltb mostEntries (countOf b)) (size .0) in
       let long = eqb-true (length b) (sheetSize (countOf b)) (not-false _ (size .1)) in
       record { few = ltb-false mostEntries (countOf b) (few .1); inside = omega (arith, long) }
+
+-- ---- the question
+
+module _ (L : ImageLayout) (last : ℕ) (sheet : List ℕ) (pack : ℕ) (image : List ℕ) where
+  -- the image is refused: the sheet is not looked at
+  pub pack-unread : (n : ℕ) → reading L last image .number ≡ n → (n ≡ 0 → ⊥) → packTold L last sheet pack image ≡ refusedPack n
+  unfolding packTold packNumber
+  pack-unread zero e some = absurd (some refl)
+  pack-unread (suc n) e some = rw (sym (read-told L last image) ∙ e, eqb·suc-zero n)
+
+  module _ (clock : reading L last image .number ≡ 0) where
+    pub pack-refused : (why : Refusal) → sheetNumber sheet ≡ numberOf why → packTold L last sheet pack image ≡ refusedPack (numberOf why)
+    unfolding packTold packNumber
+    pack-refused why e = rw (sym (read-told L last image) ∙ clock, e, refusal why)
+
+    pub pack-told : sheetNumber sheet ≡ 0 →
+        packTold L last sheet pack image ≡ record { number = 0; licence = licence pack (reading L last image .clock) (entriesOf sheet) }
+    unfolding packTold packNumber
+    pack-told e = rw (sym (read-told L last image) ∙ clock, e)

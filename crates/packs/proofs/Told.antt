@@ -4,19 +4,21 @@
 use mathlib.Core.Path.{_≡_, refl, sym, ap, _∙_}
 use mathlib.Core.List.{List}
 use mathlib.Core.Bool.{Bool, true, false, cond, not, _||_, true≢false}
-use Prim.Native.Nat.{ℕ, zero, suc}
+use Prim.Native.Nat.{ℕ}
 use native.Mathlib.Omega.{arith}
-use lib.ListN.{length}
-use lib.Dec.{ltb, eqb, eqb·suc-zero}
+use lib.ListN.{length, getD}
+use lib.Dec.{ltb, eqb}
 use borrow.Author.Tests.{ltb-false, eqb-true, not-false}
-use Rattle.node.specs.Calls.{reading}
+use Rattle.forms.specs.Number.{orElse}
+use Rattle.node.specs.Calls.{readNumber, reading}
+use Rattle.node.specs.Image.{modePlace, soundImage}
 use Rattle.node.specs.Image.{Layout as ImageLayout}
 use Rattle.packs.specs.Number.{numberOf}
 use Rattle.packs.specs.Question.{licence, packNumber, packTold, refusedPack}
 use Rattle.packs.specs.Sheet.{entriesPlace, mostEntries, sheetSize, countOf, offsetOf, entriesOf, misplaced, Lines}
 use Rattle.packs.specs.Sheet.{entriesNumber, sheetNumber, SheetTold, sheetTold, refusedSheet}
 use Rattle.packs.specs.declared.answer.Refusal.{Refusal}
-use Rattle.packs.specs.declared.answer.Refusal.the-variants.{Layout, Pack, Ticks, Room}
+use Rattle.packs.specs.declared.answer.Refusal.the-variants.{Layout, Pack, Ticks, Room, Image, Passive}
 use Rattle.forms.proofs.Meaning.{told}
 use Rattle.node.proofs.Outcomes.{read-told}
 
@@ -26,6 +28,17 @@ refusal Layout = refl
 refusal Pack = refl
 refusal Ticks = refl
 refusal Room = refl
+refusal Image = refl
+refusal Passive = refl
+
+-- so what is checked behind it is not given
+first-given : (why : Refusal) (next : ℕ) → orElse (numberOf why) next ≡ numberOf why
+first-given Layout next = refl
+first-given Pack next = refl
+first-given Ticks next = refl
+first-given Room next = refl
+first-given Image next = refl
+first-given Passive next = refl
 
 -- two tests of which neither passes
 neither : (s t : Bool) → (s || t) ≡ false → (s ≡ false) × (t ≡ false)
@@ -81,10 +94,20 @@ module _ (b : List ℕ) where
 
 module _ (L : ImageLayout) (last : ℕ) (sheet : List ℕ) (pack : ℕ) (image : List ℕ) where
   -- the image is refused: the sheet is not looked at
-  pub pack-unread : (n : ℕ) → reading L last image .number ≡ n → (n ≡ 0 → ⊥) → packTold L last sheet pack image ≡ refusedPack n
+  pub pack-unread : (why : Refusal) → reading L last image .number ≡ numberOf why →
+      packTold L last sheet pack image ≡ refusedPack (numberOf why)
   unfolding packTold packNumber
-  pack-unread zero e some = absurd (some refl)
-  pack-unread (suc n) e some = rw (sym (read-told L last image) ∙ e, eqb·suc-zero n)
+  pack-unread why e = rw (sym (read-told L last image) ∙ e, first-given why (sheetNumber sheet), refusal why)
+
+  -- read gives 8, 12 or 0
+  pub read-passive : (reading L last image .number ≡ 8 → ⊥) → (reading L last image .number ≡ 0 → ⊥) → reading L last image .number ≡ 12
+  unfolding readNumber
+  read-passive sound some = rw (read-told L last image) (go (soundImage L last image) (eqb (getD image modePlace 0) 0) refl refl)
+    where
+      go : (s t : Bool) → soundImage L last image ≡ s → eqb (getD image modePlace 0) 0 ≡ t → _≡_ {A = ℕ} (cond s (cond t 12 0) 8) 12
+      go true true p q = refl
+      go true false p q = absurd (some (rw (read-told L last image, p, q)))
+      go false t p q = absurd (sound (rw (read-told L last image, p)))
 
   module _ (clock : reading L last image .number ≡ 0) where
     pub pack-refused : (why : Refusal) → sheetNumber sheet ≡ numberOf why → packTold L last sheet pack image ≡ refusedPack (numberOf why)

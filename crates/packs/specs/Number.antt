@@ -3,7 +3,7 @@ use Prim.Native.Nat.{ℕ}
 use Rattle.packs.specs.declared.answer.Licence.{Licence}
 use Rattle.packs.specs.declared.answer.Licence.the-variants.{NotLicensed, NotInForce, InForce}
 use Rattle.packs.specs.declared.answer.Refusal.{Refusal}
-use Rattle.packs.specs.declared.answer.Refusal.the-variants.{Layout, Pack, Ticks, Room}
+use Rattle.packs.specs.declared.answer.Refusal.the-variants.{Layout, Pack, Ticks, Room, Image, Passive}
 use Rattle.packs.specs.declared.answer.Verdict.{Verdict}
 use Rattle.packs.specs.declared.answer.Verdict.the-variants.{Sound, Broken}
 
@@ -12,6 +12,8 @@ numberOf Layout = 14
 numberOf Pack = 15
 numberOf Ticks = 16
 numberOf Room = 7
+numberOf Image = 8
+numberOf Passive = 12
 
 abbrev pub verdictOf : Verdict → ℕ
 verdictOf Sound = 0

@@ -12,7 +12,7 @@ use Rattle.node.specs.Image.{Layout}
 use Rattle.packs.specs.Number.{numberOf, licenceOf, notLicensed, notInForce, inForce}
 use Rattle.packs.specs.Sheet.{packs, howMany, entriesOf, sheetNumber}
 use Rattle.packs.specs.declared.question.Asked.{Asked}
-use Rattle.packs.specs.declared.question.Asked.the-variants.{Told, Refused, Unread}
+use Rattle.packs.specs.declared.question.Asked.the-variants.{Told, Refused}
 use Rattle.packs.specs.declared.sheet.Entry.{Entry}
 
 -- first ≤ tick < end
@@ -52,4 +52,3 @@ packTold L last sheet pack image =
 abbrev pub askedBy : Asked → PackTold
 askedBy (Told how) = record { number = 0; licence = licenceOf how }
 askedBy (Refused why) = refusedPack (numberOf why)
-askedBy (Unread number) = refusedPack number

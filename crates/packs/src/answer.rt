@@ -12,6 +12,10 @@ pub enum Refusal {
     Ticks,
     // output shorter than what would be written
     Room,
+    // the node's image is not sound, or its buffer too short
+    Image,
+    // the node is passive: it has no clock to ask at
+    Passive,
 }
 
 impl Refusal {
@@ -24,6 +28,8 @@ impl Refusal {
             Refusal::Pack => 15,
             Refusal::Ticks => 16,
             Refusal::Room => 7,
+            Refusal::Image => 8,
+            Refusal::Passive => 12,
         }
     }
 }

@@ -29,7 +29,6 @@ pub fn pack(sheet: &[u8], pack: u32, image: &[u8]) -> PackAnswer
     ensures { λ r. ⌜ packBy r ≡ packTold layout lastTick (now (sheet .entry)) pack (now (image .entry)) ⌝ }
 {
     match ask(sheet, pack, image) {
-        Asked::Unread(number) => PackAnswer { number, licence: 0 },
         Asked::Refused(why) => PackAnswer {
             number: why.number(),
             licence: 0,

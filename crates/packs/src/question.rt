@@ -19,10 +19,8 @@ ghost use Rattle.packs.specs.Question.{runs, licence, askedBy, packTold}
 
 pub enum Asked {
     Told(Licence),
-    // the sheet is refused
+    // read refuses the image, or the sheet is refused
     Refused(Refusal),
-    // the image is refused by read, with this number
-    Unread(u32),
 }
 
 // How many of the n entries of a sheet have this pack number and are in force at this tick.
@@ -64,8 +62,11 @@ pub fn ask(sheet: &[u8], pack: u32, image: &[u8]) -> Asked
     ensures { λ r. ⌜ askedBy r ≡ packTold layout lastTick (now (sheet .entry)) pack (now (image .entry)) ⌝ }
 {
     let told = read(image);
+    if told.number == 8 {
+        return Asked::Refused(Refusal::Image);
+    }
     if told.number != 0 {
-        return Asked::Unread(told.number);
+        return Asked::Refused(Refusal::Passive);
     }
     match read_sheet(sheet) {
         SheetRead::Refused(why) => Asked::Refused(why),

@@ -9,9 +9,6 @@ use Rattle.packs.proofs.calls.pack.Tie as tie
 ask-requires : tie.Need-ask-requires
 ask-requires c κs = search needs
 
-enum-known-number : tie.Need-enum-known-number
-enum-known-number c = search needs
-
 enum-known-why : tie.Need-enum-known-why
 enum-known-why c = search needs
 
@@ -25,16 +22,13 @@ number-requires-2 : tie.Need-number-requires-2
 number-requires-2 c κs = search needs
 
 returns : tie.Need-returns
-returns c = ap askedBy (sym (c .before .number .given .1)) ∙ c .before .before .before .ask .ensures
+returns c =
+    rw (c .number .ensures)
+    (ap askedBy (sym (c .before .before .why .given .1)) ∙ c .before .before .before .before .ask .ensures)
 
 returns-2 : tie.Need-returns-2
 returns-2 c =
     rw (c .number2 .ensures)
-    (ap askedBy (sym (c .before .before .why .given .1)) ∙ c .before .before .before .before .ask .ensures)
-
-returns-3 : tie.Need-returns-3
-returns-3 c =
-    rw (c .number3 .ensures)
     (ap askedBy (sym (c .before .before .licence .given .1)) ∙ c .before .before .before .before .ask .ensures)
 
 pub pack-spec : {M : Type 1} → statement M
@@ -42,11 +36,9 @@ pack-spec =
     tie.close
     (tie.spec
     ask-requires
-    enum-known-number
     enum-known-why
     number-requires
     enum-known-licence
     number-requires-2
     returns
-    returns-2
-    returns-3)
+    returns-2)

@@ -58,7 +58,7 @@ module _ (number size : ℕ) (before after : List ℕ) where
       (sym (take-append-drop size after) ∙ ap₂ (λ (x y : List ℕ). x ++ y) (front ∙ take-all size b (omega arith)) (rw e behind))
 
   -- a refusal changes no byte
-  refused-bytes : (writeTold number size before after .number ≡ 0 → ⊥) →
+  pub refused-bytes : (writeTold number size before after .number ≡ 0 → ⊥) →
       (writeTold number size before after .written ≡ 0) × (writeTold number size before after .out ≡ before)
   refused-bytes = go (eqb number 0) (ltb (length before) size)
     where

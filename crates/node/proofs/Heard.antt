@@ -60,7 +60,8 @@ refused-nothing L last image serial port frame out n =
       none = rw (refused, ne-eqb (deliverNumber L last image port frame (length out)) 0 n);
     }
 
-bytes-called : (L : Layout) (last : ℕ) (image : List ℕ) (call : Call) → Bytes image → Bytes (called L last image call .image)
+-- the image stays bytes
+pub bytes-called : (L : Layout) (last : ℕ) (image : List ℕ) (call : Call) → Bytes image → Bytes (called L last image call .image)
 unfolding called
 bytes-called L last image Read h = h
 bytes-called L last image (Deliver port frame out) h = go (ℕ-discrete (deliverNumber L last image port frame (length out)) 0)

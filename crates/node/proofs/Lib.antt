@@ -4,6 +4,7 @@ pub mod Fresh
 pub mod Heard
 pub mod Images
 pub mod Kept
+pub mod Later
 pub mod Lives
 pub mod Numbers
 pub mod Orderly

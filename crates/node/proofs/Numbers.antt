@@ -3,13 +3,15 @@
 -- Assumes nothing.
 use mathlib.Core.Path.{_≡_, refl}
 use mathlib.Core.Bool.{Bool, true, false, cond, not}
-use mathlib.Core.List.{List}
+use mathlib.Core.List.{List, _++_}
 use Prim.Native.Nat.{ℕ}
 use native.Mathlib.Omega.{arith}
 use lib.ListN.{length, getD}
+use lib.Dec.{eqb}
 use Rattle.forms.specs.Form.{linesOf}
-use Rattle.forms.specs.Table.{Says}
-use Rattle.forms.proofs.Meaning.{less, equal, in-front, none, form-then, frame-says, frame-told, absent}
+use Rattle.forms.specs.Number.{orElse}
+use Rattle.forms.specs.Table.{Check, Given, Says}
+use Rattle.forms.proofs.Meaning.{less, equal, in-front, none, past, form-then, frame-says, frame-told, absent}
 use Rattle.rules.specs.Describe.{room}
 use Rattle.node.specs.Calls.{bootNumber, booted, deliverNumber, deliverOutcome, readNumber, reading}
 use Rattle.node.specs.Image.{Layout, modePlace, imageSize, rosterIn, soundImage}
@@ -47,8 +49,22 @@ deliver-says L last image port frame out =
 
 -- ---- read: 8, 12
 
+-- the two tests of read, with other checks behind
+read-checks : (L : Layout) (last : ℕ) (image : List ℕ) {next : ℕ} {checks : List Check} →
+    Says next checks → (Given checks 8 → ⊥) × (Given checks 12 → ⊥) →
+    Says (cond (not (soundImage L last image)) 8 (cond (eqb (getD image modePlace 0) 0) 12 next)) (readChecks L last image ++ checks)
+read-checks L last image says fresh =
+    in-front 8 (not-sound-says L last image) (λ g. fresh .0 (g .1)) (in-front 12 (equal (getD image modePlace 0) 0) (fresh .1) says)
+
 pub read-says : (L : Layout) (last : ℕ) (image : List ℕ) → Says (reading L last image .number) (readChecks L last image)
 unfolding readNumber
 read-says L last image =
-    rw (read-told L last image, swap (soundImage L last image))
-    (in-front 8 (not-sound-says L last image) (omega arith) (in-front 12 (equal (getD image modePlace 0) 0) (omega arith) none))
+    rw (read-told L last image, swap (soundImage L last image)) (read-checks L last image none (omega arith))
+
+-- read's number, with other checks behind
+pub read-then : (L : Layout) (last : ℕ) (image : List ℕ) {next : ℕ} {checks : List Check} →
+    Says next checks → (Given checks 8 → ⊥) × (Given checks 12 → ⊥) →
+    Says (orElse (readNumber L last image) next) (readChecks L last image ++ checks)
+unfolding readNumber
+read-then L last image says fresh =
+    rw (swap (soundImage L last image), past, past) (read-checks L last image says fresh)

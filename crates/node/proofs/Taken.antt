@@ -36,7 +36,8 @@ passed : (t : Bool) (number next : ℕ) → 0 < number → cond t number next �
 passed true number next p e = absurd (omega arith)
 passed false number next p e = (refl, e)
 
-past-form : (number next : ℕ) → orElse number next ≡ 0 → (number ≡ 0) × (next ≡ 0)
+-- two checks one after the other
+pub past-form : (number next : ℕ) → orElse number next ≡ 0 → (number ≡ 0) × (next ≡ 0)
 past-form zero next e = (refl, e)
 past-form (suc n) next e = absurd (omega arith)
 

@@ -46,6 +46,7 @@ use Rattle.node.proofs.Conditions.{sound-says}
 use Rattle.node.proofs.Heard.{held-is-heard, held-same}
 use Rattle.node.proofs.Kept.{boot-lengths, boot-behind-image, boot-behind-records}
 use Rattle.node.proofs.Kept.{deliver-lengths, deliver-behind-image, deliver-behind-records, deliver-only}
+use Rattle.node.proofs.Later.{calls-later}
 use Rattle.node.proofs.Lives.{life-order}
 use Rattle.node.proofs.Numbers.{boot-says, deliver-says, read-says}
 use Rattle.node.proofs.Outcomes.{boot-told, boot-done, boot-refused, deliver-told, deliver-done, deliver-refused}
@@ -257,6 +258,17 @@ module _ (image : List ℕ) (serial kind : ℕ) (bytes : Bytes image) (known : (
       → ((frame : Sent) → List·Memᴰ frame (from others) → List·Memᴰ frame (from calls))
       → held calls ≡ held others
   evidence-is-the-same calls others = held-same layout lastTick in-service (lit< tt) image calls others serial kind bytes known
+
+-- ---- The clock, over any calls from any senders, refused ones among them
+
+-- Once active, active for ever, and the clock never falls: after any calls read gives a clock again, and one that is not below
+pub clock-never-falls :
+    (image : List ℕ) (calls : List Call)
+    → Bytes image
+    → reads image .number ≡ 0
+    → (reads (imageLeft layout lastTick image calls) .number ≡ 0)
+    × (reads image .clock ≤ reads (imageLeft layout lastTick image calls) .clock)
+clock-never-falls = calls-later layout lastTick in-service (lit< tt)
 
 -- ---- Demand 3. Two forms alike in all but the line order of their serials: the same is seen after each call, for ever
 

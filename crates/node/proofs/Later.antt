@@ -23,7 +23,7 @@ use Rattle.node.proofs.Outcomes.{deliver-done, deliver-refused, read-do
 use Rattle.node.proofs.SoundImages.{Works, delivery-sound, delivery-ordered}
 
 -- read gives a clock of the second image, and one not below that of the first
-abbrev pub Later : Layout → ℕ → List ℕ → List ℕ → Type 0
+abbrev Later : Layout → ℕ → List ℕ → List ℕ → Type 0
 Later L last image next = (reading L last next .number ≡ 0) × (reading L last image .clock ≤ reading L last next .clock)
 
 module _ (L : Layout) (last : ℕ) (works : Works L) (small : last < tickCount) where

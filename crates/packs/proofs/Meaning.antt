@@ -55,7 +55,9 @@ found test (e ∷ es) p = go (test e) refl (found test es) p
 many-says : (test : Entry → Bool) (es : List Entry) → Decides (ltb 0 (howMany test es)) (Passes test es)
 many-says test es = Iff·trans (less 0 (howMany test es)) (found test es, λ x. counted test (x .1) (x .2))
 
--- an answer that is no success is the refusal with its number
+-- ---- what a refusal tells
+
+-- an answer whose number is not 0 is the refusal with this number
 refusal-told : {A : Type 0} (number : A → ℕ) (taken : A) (refused : ℕ → A) (n : ℕ) →
     number taken ≡ 0 → ((k : ℕ) → number (refused k) ≡ k) →
     (number (cond (eqb n 0) taken (refused n)) ≡ 0 → ⊥) →
@@ -93,6 +95,7 @@ module _ (es : List Entry) where
   entries-says = entries-then none (omega arith)
 
 module _ (b : List ℕ) where
+  -- the layout is wrong exactly where row 14 applies
   pub misplaced-says : Decides (misplaced b) (Misplaced b)
   misplaced-says =
       either _ _
@@ -118,6 +121,7 @@ module _ (bytes out : List ℕ) where
   unfit-says : Decides (unfit bytes) (Unfit bytes)
   unfit-says = either _ _ (opposite _ (equal (length bytes % entrySize) 0)) (less (mostEntries * entrySize) (length bytes))
 
+  -- the writer's number is what rows 14 to 16 give, and 7 last
   pub sheet-writer-says : Says (sheetWritten bytes out .number) (sheetWriterChecks bytes out)
   unfolding sheetWritten writeNumber entriesNumber
   sheet-writer-says =
@@ -142,6 +146,7 @@ module _ (L : Layout) (last : ℕ) (sheet : List ℕ) (pack : ℕ) (image : List
   unfolding packTold
   pack-number = told (λ (t : PackTold). t .number) _ _ (packNumber L last sheet image) refl refl
 
+  -- the question's number is what rows 8 and 12 give, then 14 to 16
   pub pack-says : Says (packTold L last sheet pack image .number) (packChecks L last sheet image)
   unfolding packNumber
   pack-says = rw pack-number (read-then L last image (sheet-number-says sheet) (omega arith))

@@ -1,5 +1,6 @@
 -- The laws and theorems of `packs` that belong to no single function.
 pub mod Ascending
+pub mod Ended
 pub mod Entries
 pub mod Meaning
 pub mod Nearest

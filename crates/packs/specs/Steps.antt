@@ -10,14 +10,14 @@ use Rattle.forms.specs.Column.{count, twins}
 use Rattle.packs.specs.Sheet.{entriesPlace, entrySize, entryAt, entriesIn, packs, Lines}
 use Rattle.packs.specs.declared.sheet.Entry.{Entry}
 
--- an entry is nearer above the floor than the best so far
-abbrev pub nearer : ℕ → Entry → Entry → Bool
-nearer floor e best = ltb floor (e .pack) && (leb (best .pack) floor || ltb (e .pack) (best .pack))
+-- a pack number is nearer above the floor than the best so far
+abbrev pub nearer : ℕ → ℕ → ℕ → Bool
+nearer floor pack best = ltb floor pack && (leb best floor || ltb pack best)
 
 -- the best so far, and the nearest above the floor among some more entries
 unfoldable pub nearest : ℕ → Entry → List Entry → Entry
 nearest floor best [] = best
-nearest floor best (e ∷ es) = nearest floor (cond (nearer floor e best) e best) es
+nearest floor best (e ∷ es) = nearest floor (cond (nearer floor (e .pack) (best .pack)) e best) es
 
 -- the search asks for entries to look at
 pub record Searched (b : List ℕ) (n : ℕ) : Type 0 where

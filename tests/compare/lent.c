@@ -37,12 +37,17 @@ uint8_t *place(struct lent *b)
     return b->length ? body(b) : nowhere;
 }
 
+static size_t watched(size_t length)
+{
+    return GUARD + length + GUARD;
+}
+
 void lend(struct both *b, const uint8_t *bytes, size_t length)
 {
-    memset(b->proved.all, GUARD_BYTE, sizeof b->proved.all);
+    memset(b->proved.all, GUARD_BYTE, watched(length));
     if (length) memcpy(body(&b->proved), bytes, length);
-    b->proved.length = length;
-    b->plain = b->proved;
+    memcpy(b->plain.all, b->proved.all, watched(length));
+    b->proved.length = b->plain.length = length;
 }
 
 void lend_room(struct both *b, size_t length)
@@ -54,7 +59,7 @@ void lend_room(struct both *b, size_t length)
 
 int same_bytes(const struct lent *a, const struct lent *b)
 {
-    return memcmp(a->all, b->all, sizeof a->all) == 0;
+    return a->length == b->length && memcmp(a->all, b->all, watched(a->length)) == 0;
 }
 
 int same(const struct both *b)

@@ -323,7 +323,7 @@ static void empty_buffers(void)
     nowhere = NULL;
 }
 
-/* 256 entries are as many as none, in a byte */
+/* about the most that a sheet may have, and counts that would be 0 and 1 in a byte */
 static void many_entries(void)
 {
     static const unsigned counts[] = {MOST_ENTRIES - 1, MOST_ENTRIES, MOST_ENTRIES + 1, 256, 257};

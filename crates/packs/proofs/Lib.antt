@@ -2,6 +2,7 @@
 pub mod Ascending
 pub mod Ended
 pub mod Entries
+mod Examples
 pub mod Meaning
 pub mod Nearest
 pub mod Order

@@ -38,7 +38,7 @@ module _ (number size : ℕ) (before after : List ℕ) where
       (record { number = number; written = 0; out = before })
 
   -- number 0 is given only where all is written
-  wrote : writeTold number size before after .number ≡ 0 →
+  pub wrote : writeTold number size before after .number ≡ 0 →
       (number ≡ 0) × (size ≤ length before) × (writeTold number size before after ≡ record { number = 0; written = size; out = after })
   wrote = go (eqb number 0) refl (ltb (length before) size) refl
     where
@@ -49,7 +49,7 @@ module _ (number size : ℕ) (before after : List ℕ) where
       go false e t d p = absurd (eqb-false number 0 e p)
 
   -- and where that begins with the bytes b and ends as before, the output is b over the old bytes
-  wrote-bytes : (b : List ℕ) → writeTold number size before after .number ≡ 0 → length b ≡ size →
+  pub wrote-bytes : (b : List ℕ) → writeTold number size before after .number ≡ 0 → length b ≡ size →
       take size after ≡ take size b → drop size after ≡ drop size before →
       writeTold number size before after ≡ record { number = 0; written = length b; out = b ++ drop (length b) before }
   wrote-bytes b p e front behind =
@@ -68,7 +68,7 @@ module _ (number size : ℕ) (before after : List ℕ) where
       go false t n = (refl, refl)
 
   -- bytes behind what is written stay, and so does the length, whatever the number
-  kept-bytes : drop size after ≡ drop size before → length after ≡ length before →
+  pub kept-bytes : drop size after ≡ drop size before → length after ≡ length before →
       (drop size (writeTold number size before after .out) ≡ drop size before)
       × (length (writeTold number size before after .out) ≡ length before)
   kept-bytes behind long = go (eqb number 0) (ltb (length before) size)

@@ -11,17 +11,20 @@ use Rattle.forms.specs.Form.{WriteTold}
 use Rattle.forms.proofs.Single.{one-answer, one-write}
 use Rattle.packs.specs.Answers.{packBy, sheetBy}
 use Rattle.packs.specs.Number.{numberOf, verdictOf, notLicensed, notInForce, licenceOf}
-use Rattle.packs.specs.Question.{PackTold}
+use Rattle.packs.specs.Question.{PackTold, askedBy}
 use Rattle.packs.specs.Sheet.{SheetTold, toldBy}
 use Rattle.packs.specs.Writer.{writtenBy}
 use Rattle.packs.specs.declared.answer.Licence.{Licence}
 use Rattle.packs.specs.declared.answer.Licence.the-variants.{NotLicensed, NotInForce, InForce}
 use Rattle.packs.specs.declared.answer.Refusal.{Refusal}
-use Rattle.packs.specs.declared.answer.Refusal.the-variants.{Layout, Pack, Ticks, Room}
+use Rattle.packs.specs.declared.answer.Refusal.the-variants.{Layout, Pack, Ticks, Room, Image, Passive}
 use Rattle.packs.specs.declared.answer.Verdict.{Verdict}
 use Rattle.packs.specs.declared.answer.Verdict.the-variants.{Sound, Broken}
 use Rattle.packs.specs.declared.calls.PackAnswer.{PackAnswer}
 use Rattle.packs.specs.declared.calls.SheetAnswer.{SheetAnswer}
+use Rattle.packs.specs.declared.question.Asked.{Asked}
+use Rattle.packs.specs.declared.question.Asked.the-variants.{Told}
+use Rattle.packs.specs.declared.question.Asked.the-variants.{Refused as Unasked}
 use Rattle.packs.specs.declared.sheet.SheetRead.{SheetRead}
 use Rattle.packs.specs.declared.sheet.SheetRead.the-variants.{Taken, Refused}
 use Rattle.packs.specs.declared.writer.Written.{Written}
@@ -34,7 +37,9 @@ caseOf n =
     cond (eqb n (numberOf Layout)) Layout
     (cond (eqb n (numberOf Pack)) Pack
     (cond (eqb n (numberOf Ticks)) Ticks
-    Room))
+    (cond (eqb n (numberOf Room)) Room
+    (cond (eqb n (numberOf Image)) Image
+    Passive))))
 
 back : (why : Refusal) → caseOf (numberOf why) ≡ why
 unfolding caseOf
@@ -42,6 +47,8 @@ back Layout = refl
 back Pack = refl
 back Ticks = refl
 back Room = refl
+back Image = refl
+back Passive = refl
 
 -- what is taken where the number is 0, and the case that the number stands for where it is not
 answerTo : {A : Type 0} → A → (Refusal → A) → ℕ → A
@@ -88,6 +95,17 @@ licence-is InForce = refl
 
 pub one-licence : (a b : Licence) → licenceOf a ≡ licenceOf b → a ≡ b
 one-licence = one-answer licenceOf licenceNamed licence-is
+
+askedOf : PackTold → Asked
+askedOf t = answerTo (Told (licenceNamed (t .licence))) Unasked (t .number)
+
+asked-is : (a : Asked) → askedOf (askedBy a) ≡ a
+unfolding askedOf answerTo
+asked-is (Told how) = ap Told (licence-is how)
+asked-is (Unasked why) = refused-again (Told (licenceNamed 0)) Unasked why
+
+pub one-asked : (a b : Asked) → askedBy a ≡ askedBy b → a ≡ b
+one-asked = one-answer askedBy askedOf asked-is
 
 packOf : PackTold → PackAnswer
 packOf t = record { number = t .number; licence = t .licence }

@@ -4,11 +4,16 @@
 use node::calls;
 use node::calls::Answer;
 use node::calls::Reading;
+use packs::calls::PackAnswer;
+use packs::calls::SheetAnswer;
 ghost use mathlib.Core.Path.{_≡_};
 ghost use Rattle.rules.specs.Describe.{lastTick};
 ghost use Rattle.node.specs.Answers.{outcomeBy, readingBy};
 ghost use Rattle.node.specs.Calls.{booted, deliverOutcome, reading};
 ghost use Rattle.node.specs.Image.{layout};
+ghost use Rattle.packs.specs.Answers.{packBy, sheetBy};
+ghost use Rattle.packs.specs.Question.{packTold};
+ghost use Rattle.packs.specs.Writer.{sheetWritten};
 
 // Makes a fresh node of a form.
 #[no_mangle]
@@ -39,4 +44,20 @@ pub extern "C" fn pebrassola_read(image: &[u8]) -> Reading
     ensures { λ r. ⌜ readingBy r ≡ reading layout lastTick (now (image .entry)) ⌝ }
 {
     calls::read(image)
+}
+
+// Whether a pack is in force at the clock of a node.
+#[no_mangle]
+pub extern "C" fn pebrassola_pack(sheet: &[u8], pack: u32, image: &[u8]) -> PackAnswer
+    ensures { λ r. ⌜ packBy r ≡ packTold layout lastTick (now (sheet .entry)) pack (now (image .entry)) ⌝ }
+{
+    packs::calls::pack(sheet, pack, image)
+}
+
+// Writes a sheet of entries that come in any order.
+#[no_mangle]
+pub extern "C" fn pebrassola_write_sheet(entries: &[u8], out: &mut [u8]) -> SheetAnswer
+    ensures { λ r. ⌜ sheetBy r (now (out .exit)) ≡ sheetWritten (now (entries .entry)) (now (out .entry)) ⌝ }
+{
+    packs::calls::sheet(entries, out)
 }

@@ -43,29 +43,14 @@ module _ (sheet : List ℕ) (pack : ℕ) (image : List ℕ) (calls : List Call)
       pack-told layout lastTick sheet pack left (later .0) sheet-taken
       ∙ ap {B = PackTold} (λ (k : ℕ). record { number = 0; licence = k }) e
 
--- a licence that has ended by the clock is not in force after any calls
-pub ended-never-comes-back :
-    (sheet : List ℕ) (pack : ℕ) (image : List ℕ) (e : Entry) (calls : List Call)
-    → Bytes image
-    → packTold layout lastTick sheet pack image .number ≡ 0
-    -- the pack's entry
-    → List·Memᴰ e (entriesOf sheet)
-    → e .pack ≡ pack
-    → e .end ≤ reading layout lastTick image .clock
-    → packTold layout lastTick sheet pack (imageLeft layout lastTick image calls) ≡ record { number = 0; licence = notInForce }
-ended-never-comes-back sheet pack image e calls bytes ok listed same ended =
-    let now = clock sheet pack image calls bytes ok in
-    let entries = taken-parts sheet (sheet-taken sheet pack image calls bytes ok) .1 in
-    asked-again sheet pack image calls bytes ok notInForce
-    (ap (λ (p : ℕ). licence p now (entriesOf sheet)) (sym same)
-    ∙ the-entry-denies now entries listed .1 (λ c. omega (arith, later sheet pack image calls bytes ok .1, c .1)))
+  -- a licence that has ended by the clock is not in force
+  pub ended : (e : Entry) → List·Memᴰ e (entriesOf sheet) → e .pack ≡ pack → e .end ≤ reading layout lastTick image .clock →
+      packTold layout lastTick sheet pack left ≡ record { number = 0; licence = notInForce }
+  ended e listed same over =
+      asked-again notInForce
+      (ap (λ (p : ℕ). licence p clock (entriesOf sheet)) (sym same)
+      ∙ the-entry-denies clock (taken-parts sheet sheet-taken .1) listed .1 (λ c. omega (arith, later .1, c .1)))
 
--- a pack that is not on the sheet is not licensed after any calls
-pub not-licensed-for-ever :
-    (sheet : List ℕ) (pack : ℕ) (image : List ℕ) (calls : List Call)
-    → Bytes image
-    → packTold layout lastTick sheet pack image .number ≡ 0
-    → (OnSheet pack (entriesOf sheet) → ⊥)
-    → packTold layout lastTick sheet pack (imageLeft layout lastTick image calls) ≡ record { number = 0; licence = notLicensed }
-not-licensed-for-ever sheet pack image calls bytes ok absent =
-    asked-again sheet pack image calls bytes ok notLicensed (not-licensed-says pack _ (entriesOf sheet) .1 absent)
+  -- a pack that is not on the sheet is not licensed
+  pub absent : (OnSheet pack (entriesOf sheet) → ⊥) → packTold layout lastTick sheet pack left ≡ record { number = 0; licence = notLicensed }
+  absent out = asked-again notLicensed (not-licensed-says pack clock (entriesOf sheet) .1 out)

@@ -9,4 +9,5 @@ pub mod Order
 pub mod Puts
 pub mod RoundTrip
 pub mod Single
+pub mod Theorems
 pub mod Told

@@ -21,11 +21,11 @@ use Rattle.forms.specs.Number.{orElse}
 use Rattle.forms.proofs.RoundTrip.{settled, wrote, wrote-bytes, kept-bytes}
 use Rattle.node.specs.Calls.{readNumber, reading}
 use Rattle.node.specs.Image.{Layout}
-use Rattle.packs.specs.Question.{licence, PackTold, refusedPack, packNumber, packTold}
+use Rattle.packs.specs.Question.{licence, PackTold, refusedPack, packNumber, packTold, entriesSay}
 use Rattle.packs.specs.Sheet.{entriesPlace, entrySize, mostEntries, sheetSize, entriesIn, countOf, offsetOf, entriesOf, packs}
 use Rattle.packs.specs.Sheet.{entriesNumber, sheetNumber, sheetTold, entryOn, noEntry, Reordered}
 use Rattle.packs.specs.Table.{Misplaced}
-use Rattle.packs.specs.Writer.{ascending, putEntries, putSheet, entriesGiven, unfit, writeNumber, sheetWritten}
+use Rattle.packs.specs.Writer.{ascending, putEntries, putSheet, entriesGiven, unfit, writeNumber, sheetWritten, bytesWritten}
 use Rattle.packs.specs.declared.sheet.Entry.{Entry}
 use Rattle.packs.proofs.Ascending.{length-ascending, ascending-perm, ascending-order, ascending-ascends, ascending-self}
 use Rattle.packs.proofs.Entries.{length-entriesIn, entries-same}
@@ -34,10 +34,6 @@ use Rattle.packs.proofs.Order.{entries-number-order, licence-order, wri
 use Rattle.packs.proofs.Puts.{narrow-entries, narrow-order, length-putEntries, field-putEntries-before}
 use Rattle.packs.proofs.Puts.{drop-putEntries, take-putEntries, entries-putEntries, putEntries-entries}
 use Rattle.packs.proofs.Told.{taken-parts, sheet-lines}
-
--- the bytes that the writer wrote: the front of its output
-abbrev pub bytesWritten : List ℕ → List ℕ → List ℕ
-bytesWritten bytes out = take (sheetWritten bytes out .written) (sheetWritten bytes out .out)
 
 -- entries handed in that no number from 14 to 16 refuses are in order
 given-sound : (bytes : List ℕ) → writeNumber bytes ≡ 0 → entriesNumber (entriesGiven bytes) ≡ 0
@@ -185,11 +181,8 @@ module _ (bytes out : List ℕ) (h : Bytes bytes) (ok : sheetWritten bytes out .
 
   -- so every question that comes to the sheet is answered as they say
   pub answers-read-back : (L : Layout) (last pack : ℕ) (image : List ℕ) →
-      packTold L last (bytesWritten bytes out) pack image
-      ≡ cond (eqb (readNumber L last image) 0)
-      (record { number = 0; licence = licence pack (reading L last image .clock) (entriesGiven bytes) })
-      (refusedPack (readNumber L last image))
-  unfolding packTold packNumber
+      packTold L last (bytesWritten bytes out) pack image ≡ entriesSay L last (entriesGiven bytes) pack image
+  unfolding packTold packNumber entriesSay
   answers-read-back L last pack image =
       ap₂ (λ (n l : ℕ). cond {A = PackTold} (eqb n 0) (record { number = 0; licence = l }) (refusedPack n))
       (image-alone (readNumber L last image)) (licences-read-back pack (reading L last image .clock))

@@ -48,6 +48,12 @@ packTold L last sheet pack image =
     (record { number = 0; licence = licence pack (reading L last image .clock) (entriesOf sheet) })
     (refusedPack (packNumber L last sheet image))
 
+-- the answer that entries in order say, with no sheet between: 8 and 12 of the image, else how the pack stands
+unfoldable pub entriesSay : Layout → ℕ → List Entry → ℕ → List ℕ → PackTold
+entriesSay L last es pack image =
+    cond (eqb (readNumber L last image) 0) (record { number = 0; licence = licence pack (reading L last image .clock) es })
+    (refusedPack (readNumber L last image))
+
 -- what an answer to the question says
 abbrev pub askedBy : Asked → PackTold
 askedBy (Told how) = record { number = 0; licence = licenceOf how }

@@ -1,0 +1,182 @@
+-- WHERE A READER STARTS for pack sheets: what request A1 promises of the reader, the question and the writer, at the layout and the last
+-- tick in service. What the words mean is in specs/: the sheet and its reader in Sheet, the question in Question, the writer in Writer,
+-- the rows of the table of numbers in Table. That the code gives just these answers, for every input, is the contract of each function
+-- (src/). The proofs are short here and stand in the files named.
+-- Assumes nothing.
+use mathlib.Core.Path.{_≡_, sym, ap, _∙_, subst}
+use mathlib.Core.Bool.{true}
+use mathlib.Core.Logic.{_↔_, Iff·trans}
+use mathlib.Core.List.{List, _++_, List·Memᴰ, List·Permᴰ}
+use Prim.Native.Nat.{ℕ, _≤_}
+use lib.ListN.{length, getD, drop}
+use Rattle.fields.specs.Field.{Bytes}
+use Rattle.forms.specs.Column.{ascends}
+use Rattle.forms.specs.Table.{Says}
+use Rattle.rules.specs.Describe.{lastTick}
+use Rattle.node.specs.Calls.{reading}
+use Rattle.node.specs.Heard.{imageLeft}
+use Rattle.node.specs.Image.{layout}
+use Rattle.node.specs.Runs.{Call}
+use Rattle.packs.specs.Number.{notLicensed, notInForce, inForce}
+use Rattle.packs.specs.Question.{licence, PackTold, refusedPack, packTold, entriesSay}
+use Rattle.packs.specs.Sheet.{entriesPlace, sheetSize, entriesOf, packs, sheetNumber, SheetTold, refusedSheet, sheetTold, Reordered}
+use Rattle.packs.specs.Table.{sheetChecks, packChecks, sheetWriterChecks, Covers, OnSheet}
+use Rattle.packs.specs.Writer.{ascending, entriesGiven, sheetWritten, bytesWritten}
+use Rattle.packs.specs.declared.sheet.Entry.{Entry}
+use Rattle.packs.proofs.Ascending.{ascending-perm}
+use Rattle.packs.proofs.Ended.{ended, absent}
+use Rattle.packs.proofs.Meaning.{sheet-says, sheet-refusal, pack-says, pack-refusal, packs-taken}
+use Rattle.packs.proofs.Meaning.{sheet-writer-says, sheet-writer-refusal, not-licensed-says, the-entry-decides}
+use Rattle.packs.proofs.Order.{sheet-order, pack-order}
+use Rattle.packs.proofs.RoundTrip.{sheet-read-back, entries-read-back, sheet-ascends, answers-read-back, same-bytes, sheet-kept}
+use Rattle.packs.proofs.RoundTrip.{written-again}
+use Rattle.packs.proofs.Told.{taken-parts}
+
+-- ---- The reader
+
+module _ (sheet : List ℕ) where
+  -- Each number is given exactly when its row of the table applies and no row before it does
+  pub sheet-numbers : Says (sheetTold sheet .number) (sheetChecks sheet)
+  sheet-numbers = sheet-says sheet
+
+  -- A refused sheet has count 0
+  pub sheet-refused : (sheetTold sheet .number ≡ 0 → ⊥) → sheetTold sheet ≡ refusedSheet (sheetTold sheet .number)
+  sheet-refused = sheet-refusal sheet
+
+-- ---- The question
+
+module _ (sheet : List ℕ) (pack : ℕ) (image : List ℕ) where
+  abbrev asked : PackTold
+  asked = packTold layout lastTick sheet pack image
+
+  -- 8 and 12 of the image, then 14 to 16 of the sheet, each exactly when its row applies
+  pub pack-numbers : Says (asked .number) (packChecks layout lastTick sheet image)
+  pack-numbers = pack-says layout lastTick sheet pack image
+
+  -- A refusal says nothing of the pack
+  pub pack-refused : (asked .number ≡ 0 → ⊥) → asked ≡ refusedPack (asked .number)
+  pack-refused = pack-refusal layout lastTick sheet pack image
+
+  -- In force is first ≤ clock < end, for the entry that has the number, wherever on the sheet it stands
+  pub in-force-exactly :
+      (e : Entry)
+      → asked .number ≡ 0
+      → List·Memᴰ e (entriesOf sheet)
+      → e .pack ≡ pack
+      → (asked .licence ≡ inForce) ↔ Covers (reading layout lastTick image .clock) e
+  in-force-exactly e ok listed same =
+      let taken = packs-taken layout lastTick sheet pack image ok in
+      let decides = the-entry-decides (reading layout lastTick image .clock) (taken-parts sheet (taken .1) .1) listed in
+      let said = taken .2 ∙ ap (λ (p : ℕ). licence p (reading layout lastTick image .clock) (entriesOf sheet)) (sym same) in
+      (λ q. decides .0 (sym said ∙ q), λ c. said ∙ decides .1 c)
+
+  -- Not licensed is a number that no entry has
+  pub not-licensed-exactly : asked .number ≡ 0 → (asked .licence ≡ notLicensed) ↔ (OnSheet pack (entriesOf sheet) → ⊥)
+  not-licensed-exactly ok =
+      let said = packs-taken layout lastTick sheet pack image ok .2 in
+      let decides = not-licensed-says pack (reading layout lastTick image .clock) (entriesOf sheet) in
+      (λ q. decides .0 (sym said ∙ q), λ n. said ∙ decides .1 n)
+
+  -- The clock never falls, so a pack that has ended never comes back: whatever is delivered, refused or read meanwhile
+  pub ended-never-comes-back :
+      (e : Entry) (calls : List Call)
+      → Bytes image
+      → asked .number ≡ 0
+      → List·Memᴰ e (entriesOf sheet)
+      → e .pack ≡ pack
+      → e .end ≤ reading layout lastTick image .clock
+      → packTold layout lastTick sheet pack (imageLeft layout lastTick image calls) ≡ record { number = 0; licence = notInForce }
+  ended-never-comes-back e calls bytes ok = ended sheet pack image calls bytes ok e
+
+  -- And a pack that is not on the sheet is not licensed, for ever
+  pub not-licensed-for-ever :
+      (calls : List Call)
+      → Bytes image
+      → asked .number ≡ 0
+      → (OnSheet pack (entriesOf sheet) → ⊥)
+      → packTold layout lastTick sheet pack (imageLeft layout lastTick image calls) ≡ record { number = 0; licence = notLicensed }
+  not-licensed-for-ever calls bytes ok = absent sheet pack image calls bytes ok
+
+-- ---- The order of entries decides nothing: the shop's own story
+
+-- Two sheets alike in all but the order of their entries are read alike,
+pub order-of-entries-reads-alike :
+    (sheet other : List ℕ)
+    → Reordered entriesPlace sheet other
+    → sheetTold sheet ≡ sheetTold other
+order-of-entries-reads-alike sheet other r = sheet-order r
+
+-- and answer every question alike, for every pack and every image, be the sheets right or wrong
+pub order-of-entries-decides-nothing :
+    (sheet other : List ℕ) (pack : ℕ) (image : List ℕ)
+    → Reordered entriesPlace sheet other
+    → packTold layout lastTick sheet pack image ≡ packTold layout lastTick other pack image
+order-of-entries-decides-nothing sheet other pack image r = pack-order r layout lastTick pack image
+
+-- ---- The writer
+
+module _ (entries out : List ℕ) where
+  -- 14 to 16, and 7 last, each exactly when its row applies
+  pub writer-numbers : Says (sheetWritten entries out .number) (sheetWriterChecks entries out)
+  writer-numbers = sheet-writer-says entries out
+
+  -- A refusal writes nothing
+  pub writer-refused :
+      (sheetWritten entries out .number ≡ 0 → ⊥)
+      → (sheetWritten entries out .written ≡ 0) × (sheetWritten entries out .out ≡ out)
+  writer-refused = sheet-writer-refusal entries out
+
+  -- Bytes behind the sheet stay, and so does the length
+  pub writer-keeps :
+      (drop (sheetSize (length (entriesGiven entries))) (sheetWritten entries out .out)
+      ≡ drop (sheetSize (length (entriesGiven entries))) out)
+      × (length (sheetWritten entries out .out) ≡ length out)
+  writer-keeps = sheet-kept entries out
+
+  -- What it wrote is read back with as many entries,
+  pub written-reads-back :
+      Bytes entries
+      → sheetWritten entries out .number ≡ 0
+      → sheetTold (bytesWritten entries out) ≡ record { number = 0; count = length (entriesGiven entries) }
+  written-reads-back = sheet-read-back entries out
+
+  -- the same entries,
+  pub written-entries :
+      Bytes entries
+      → sheetWritten entries out .number ≡ 0
+      → List·Permᴰ (entriesOf (bytesWritten entries out)) (entriesGiven entries)
+  written-entries bytes ok =
+      subst (λ (es : List Entry). List·Permᴰ es (entriesGiven entries)) (sym (entries-read-back entries out bytes ok))
+      (ascending-perm (entriesGiven entries))
+
+  -- in ascending pack number,
+  pub written-ascends :
+      Bytes entries
+      → sheetWritten entries out .number ≡ 0
+      → ascends (packs (entriesOf (bytesWritten entries out))) ≡ true
+  written-ascends = sheet-ascends entries out
+
+  -- and every question is answered as the entries say, in whatever order they came
+  pub written-answers :
+      (pack : ℕ) (image : List ℕ)
+      → Bytes entries
+      → sheetWritten entries out .number ≡ 0
+      → packTold layout lastTick (bytesWritten entries out) pack image ≡ entriesSay layout lastTick (entriesGiven entries) pack image
+  written-answers pack image bytes ok = answers-read-back entries out bytes ok layout lastTick pack image
+
+-- Two lists of entries that are reorderings of each other give the same number and the same bytes
+pub order-of-entries-writes-alike :
+    (entries others out : List ℕ)
+    → Reordered 0 entries others
+    → sheetWritten entries out ≡ sheetWritten others out
+order-of-entries-writes-alike = same-bytes
+
+-- A sheet that ascends already is written again byte for byte
+pub ascending-written-again :
+    (sheet out : List ℕ)
+    → Bytes sheet
+    → sheetNumber sheet ≡ 0
+    → ascends (packs (entriesOf sheet)) ≡ true
+    → length sheet ≤ length out
+    → sheetWritten (drop entriesPlace sheet) out ≡ record { number = 0; written = length sheet; out = sheet ++ drop (length sheet) out }
+ascending-written-again = written-again

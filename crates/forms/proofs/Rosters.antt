@@ -1,7 +1,7 @@
 -- Laws of a roster: its number case by case, and a roster in order.
 -- Assumes nothing.
-use mathlib.Core.Path.{_≡_, refl, ap, _∙_}
-use mathlib.Core.List.{List, [], _∷_}
+use mathlib.Core.Path.{_≡_, refl}
+use mathlib.Core.List.{List}
 use mathlib.Core.Bool.{Bool, true, false, cond, _||_}
 use mathlib.Core.Logic.{_⊎_, inl, inr, ⊎-elim}
 use Prim.Native.Nat.{ℕ, _+_, _-_, _*_, _≤_, _<_}
@@ -9,12 +9,10 @@ use native.Mathlib.Decide.{decLt}
 use native.Mathlib.Omega.{arith}
 use lib.ListN.{length}
 use lib.Dec.{ltb, eqb}
-use borrow.Author.Tests.{lt-ltb, le-ltb, ltb-false, eqb-true, eq-eqb, ne-eqb}
-use Rattle.fields.specs.Field.{field, words}
+use borrow.Author.Tests.{lt-ltb, le-ltb, ltb-false, eq-eqb, ne-eqb}
 use Rattle.forms.specs.Column.{count, twins}
 use Rattle.forms.specs.Roster.{mostLines, rosterNumber}
 use Rattle.forms.specs.Table.{Twice}
-use Rattle.fields.proofs.Words.{words-step, words-end}
 use Rattle.forms.proofs.Meaning.{twice-says, roster-says}
 
 -- ---- the number of a roster

@@ -1,11 +1,10 @@
 -- Each number is given exactly when its row of the table applies, and each licence exactly when the entry that has the number says so.
 -- Assumes nothing.
 use mathlib.Core.Path.{_≡_, refl, sym, ap, _∙_, subst}
-use mathlib.Core.Logic.{_↔_, inr, Iff·trans}
+use mathlib.Core.Logic.{_↔_, Iff·trans}
 use mathlib.Core.Bool.{Bool, true, false, cond, not, _||_, _&&_, false≢true}
 use mathlib.Core.List.{List, [], _∷_, _++_, List·Memᴰ, List·Memᴰ·head, List·Memᴰ·tail, Memᴰ·cast}
 use Prim.Native.Nat.{ℕ, _+_, _*_, _%_, _<_}
-use native.Mathlib.Decide.{decLt}
 use native.Mathlib.Omega.{arith}
 use lib.ListN.{length}
 use lib.Dec.{ltb, eqb}
@@ -29,7 +28,7 @@ use Rattle.packs.specs.Table.{Misplaced, Unfit, BadPack, Backward, entri
 use Rattle.packs.specs.Table.{Covers, InForce, OnSheet}
 use Rattle.packs.specs.Writer.{entriesGiven, unfit, writeNumber, putSheet, sheetWritten}
 use Rattle.packs.specs.declared.sheet.Entry.{Entry}
-use Rattle.packs.proofs.Told.{sheet-told, pack-told}
+use Rattle.packs.proofs.Told.{sheet-told, pack-told, sound-packs}
 
 -- ---- what the counts mean
 
@@ -239,14 +238,6 @@ module _ (pack tick : ℕ) (es : List Entry) where
 
 -- ---- the entry that has the number decides
 
--- entries in order have each pack number once
-pub entries-once : (es : List Entry) → entriesNumber es ≡ 0 → twins (packs es) ≡ 0
-entries-once es z =
-    elim (decLt 0 (twins (packs es))) [
-      | yes p ↦ absurd (entries-says es .exactly 0 .0 z .0 (inr (twice-says (packs es) .0 p)))
-      | no n ↦ omega arith
-    ]
-
 -- no entry has a number that stands nowhere
 apart : (pack : ℕ) {x : Entry} {es : List Entry} → count pack (packs es) ≡ 0 → List·Memᴰ x es → pack ≡ x .pack → ⊥
 apart pack {x} {es} z m same = omega (arith, member-says pack (packs es) .1 (Memᴰ·cast same (on-sheet m)))
@@ -264,7 +255,7 @@ only z (List·Memᴰ·tail m) (List·Memᴰ·tail n) same = only (omega arith) m
 module _ {e : Entry} {es : List Entry} (tick : ℕ) (z : entriesNumber es ≡ 0) (m : List·Memᴰ e es) where
   covers-all : InForce (e .pack) tick es ↔ Covers tick e
   covers-all = (
-    λ f. subst (Covers tick) (only (entries-once es z) (f .listed) m (f .number)) (f .covers),
+    λ f. subst (Covers tick) (only (sound-packs es z .1) (f .listed) m (f .number)) (f .covers),
     λ c. record { entry = e; listed = m; number = refl; covers = c },
   )
 

@@ -29,11 +29,11 @@ use Rattle.packs.specs.Writer.{ascending, putEntries, putSheet, entriesG
 use Rattle.packs.specs.declared.sheet.Entry.{Entry}
 use Rattle.packs.proofs.Ascending.{length-ascending, ascending-perm, ascending-order, ascending-ascends, ascending-self}
 use Rattle.packs.proofs.Entries.{length-entriesIn, entries-same}
-use Rattle.packs.proofs.Meaning.{entries-once, sheet-number-says, sheet-writer-says}
+use Rattle.packs.proofs.Meaning.{sheet-number-says, sheet-writer-says}
 use Rattle.packs.proofs.Order.{entries-number-order, licence-order, write-number-order}
 use Rattle.packs.proofs.Puts.{narrow-entries, narrow-order, length-putEntries, field-putEntries-before}
 use Rattle.packs.proofs.Puts.{drop-putEntries, take-putEntries, entries-putEntries, putEntries-entries}
-use Rattle.packs.proofs.Told.{taken-parts, sheet-lines}
+use Rattle.packs.proofs.Told.{sound-packs, taken-parts, sheet-lines}
 
 -- entries handed in that no number from 14 to 16 refuses are in order
 given-sound : (bytes : List ℕ) → writeNumber bytes ≡ 0 → entriesNumber (entriesGiven bytes) ≡ 0
@@ -171,7 +171,7 @@ module _ (bytes out : List ℕ) (h : Bytes bytes) (ok : sheetWritten bytes out .
   -- they ascend
   pub sheet-ascends : ascends (packs (entriesOf (bytesWritten bytes out))) ≡ true
   unfolding es
-  sheet-ascends = rw entries-read-back (ascending-ascends es (entries-once es sound))
+  sheet-ascends = rw entries-read-back (ascending-ascends es (sound-packs es sound .1))
 
   -- and every pack stands as the entries given say
   pub licences-read-back : (pack tick : ℕ) →
@@ -210,7 +210,7 @@ module _ (bytes others out : List ℕ) (r : Reordered 0 bytes others) where
   unfolding sheetWritten
   same-bytes =
       elim (ℕ-discrete (writeNumber bytes) 0) [
-        | yes e ↦ cc (number, length-same, sheet-same (entries-once (entriesGiven bytes) (given-sound bytes e)))
+        | yes e ↦ cc (number, length-same, sheet-same (sound-packs (entriesGiven bytes) (given-sound bytes e) .1))
         | no n ↦ cc (number, ne-eqb (writeNumber bytes) 0 n, ne-eqb (writeNumber others) 0 (λ e. n (number ∙ e)))
       ]
     where

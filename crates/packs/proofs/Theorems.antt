@@ -5,10 +5,10 @@
 -- Assumes nothing.
 use mathlib.Core.Path.{_≡_, sym, ap, _∙_, subst}
 use mathlib.Core.Bool.{true}
-use mathlib.Core.Logic.{_↔_, Iff·trans}
+use mathlib.Core.Logic.{_↔_}
 use mathlib.Core.List.{List, _++_, List·Memᴰ, List·Permᴰ}
 use Prim.Native.Nat.{ℕ, _≤_}
-use lib.ListN.{length, getD, drop}
+use lib.ListN.{length, drop}
 use Rattle.fields.specs.Field.{Bytes}
 use Rattle.forms.specs.Column.{ascends}
 use Rattle.forms.specs.Table.{Says}
@@ -19,9 +19,9 @@ use Rattle.node.specs.Image.{layout}
 use Rattle.node.specs.Runs.{Call}
 use Rattle.packs.specs.Number.{notLicensed, notInForce, inForce}
 use Rattle.packs.specs.Question.{licence, PackTold, refusedPack, packTold, entriesSay}
-use Rattle.packs.specs.Sheet.{entriesPlace, sheetSize, entriesOf, packs, sheetNumber, SheetTold, refusedSheet, sheetTold, Reordered}
+use Rattle.packs.specs.Sheet.{entriesPlace, sheetSize, entriesOf, packs, sheetNumber, refusedSheet, sheetTold, Reordered}
 use Rattle.packs.specs.Table.{sheetChecks, packChecks, sheetWriterChecks, Covers, OnSheet}
-use Rattle.packs.specs.Writer.{ascending, entriesGiven, sheetWritten, bytesWritten}
+use Rattle.packs.specs.Writer.{entriesGiven, sheetWritten, bytesWritten}
 use Rattle.packs.specs.declared.sheet.Entry.{Entry}
 use Rattle.packs.proofs.Ascending.{ascending-perm}
 use Rattle.packs.proofs.Ended.{ended, absent}

@@ -9,6 +9,7 @@ use native.Mathlib.Omega.{arith}
 use lib.ListN.{length, getD}
 use lib.Dec.{ltb, eqb}
 use borrow.Author.Tests.{ltb-false, eqb-true, not-false}
+use Rattle.forms.specs.Column.{count, twins}
 use Rattle.forms.specs.Number.{orElse}
 use Rattle.node.specs.Calls.{readNumber, reading}
 use Rattle.node.specs.Image.{modePlace, soundImage}
@@ -16,7 +17,8 @@ use Rattle.node.specs.Image.{Layout as ImageLayout}
 use Rattle.packs.specs.Number.{numberOf}
 use Rattle.packs.specs.Question.{licence, packNumber, packTold, refusedPack}
 use Rattle.packs.specs.Sheet.{entriesPlace, mostEntries, sheetSize, countOf, offsetOf, entriesOf, misplaced, Lines}
-use Rattle.packs.specs.Sheet.{entriesNumber, sheetNumber, SheetTold, sheetTold, refusedSheet}
+use Rattle.packs.specs.Sheet.{packs, howMany, backward, entriesNumber, sheetNumber, SheetTold, sheetTold, refusedSheet}
+use Rattle.packs.specs.declared.sheet.Entry.{Entry}
 use Rattle.packs.specs.declared.answer.Refusal.{Refusal}
 use Rattle.packs.specs.declared.answer.Refusal.the-variants.{Layout, Pack, Ticks, Room, Image, Passive}
 use Rattle.forms.proofs.Meaning.{told}
@@ -44,6 +46,18 @@ first-given Passive next = refl
 neither : (s t : Bool) → (s || t) ≡ false → (s ≡ false) × (t ≡ false)
 neither true t e = absurd (true≢false e)
 neither false t e = (refl, e)
+
+-- entries that are in order have no pack number 0, and none twice
+pub sound-packs : (es : List Entry) → entriesNumber es ≡ 0 → (count 0 (packs es) ≡ 0) × (twins (packs es) ≡ 0)
+unfolding entriesNumber
+sound-packs es z = go (ltb 0 (count 0 (packs es))) (ltb 0 (twins (packs es))) (ltb 0 (howMany backward es)) refl refl z
+  where
+    go : (s t u : Bool) → ltb 0 (count 0 (packs es)) ≡ s → ltb 0 (twins (packs es)) ≡ t → cond {A = ℕ} (s || t) 15 (cond u 16 0) ≡ 0 →
+        (count 0 (packs es) ≡ 0) × (twins (packs es) ≡ 0)
+    go true t u p q r = absurd (omega arith)
+    go false true u p q r = absurd (omega arith)
+    go false false u p q r =
+        (omega (arith, ltb-false 0 (count 0 (packs es)) p), omega (arith, ltb-false 0 (twins (packs es)) q))
 
 module _ (b : List ℕ) where
   -- ---- from the number to what is told

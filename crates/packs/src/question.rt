@@ -1,13 +1,12 @@
 // The question: is a pack in force at the clock of a node? The answer is that of the entry that has the number, wherever it stands.
 use crate::answer::Licence;
 use crate::answer::Refusal;
-use crate::sheet::END;
 use crate::sheet::ENTRIES;
 use crate::sheet::ENTRY;
-use crate::sheet::FIRST;
+use crate::sheet::Entry;
 use crate::sheet::SheetRead;
+use crate::sheet::entry_at;
 use crate::sheet::read_sheet;
-use fields::field::word;
 use forms::column::count_word;
 use node::calls::read;
 ghost use mathlib.Core.Path.{_≡_};
@@ -15,7 +14,7 @@ ghost use Rattle.rules.specs.Describe.{lastTick};
 ghost use Rattle.node.specs.Image.{layout};
 ghost use Rattle.packs.specs.Number.{licenceOf};
 ghost use Rattle.packs.specs.Sheet.{entriesPlace, entriesIn, howMany, Lines};
-ghost use Rattle.packs.specs.Question.{runs, licence, askedBy, packTold};
+ghost use Rattle.packs.specs.Question.{runs as Question·runs, licence, askedBy, packTold};
 
 pub enum Asked {
     Told(Licence),
@@ -23,19 +22,29 @@ pub enum Asked {
     Refused(Refusal),
 }
 
+// Whether an entry has this pack number and is in force at this tick.
+fn runs(e: Entry, pack: u32, tick: u32) -> bool
+    ensures { λ r. ⌜ r ≡ Question·runs pack tick e ⌝ }
+{
+    if e.pack != pack {
+        return false;
+    }
+    if tick < e.first {
+        return false;
+    }
+    tick < e.end
+}
+
 // How many of the n entries of a sheet have this pack number and are in force at this tick.
 fn count_in_force(sheet: &[u8], n: usize, pack: u32, tick: u32) -> usize
     requires { ⌜ Lines (now sheet) entriesPlace n ⌝ }
-    ensures { λ r. ⌜ r ≡ howMany (runs pack tick) (entriesIn n (now (sheet .entry)) entriesPlace) ⌝ }
+    ensures { λ r. ⌜ r ≡ howMany (Question·runs pack tick) (entriesIn n (now (sheet .entry)) entriesPlace) ⌝ }
 {
     let mut found: usize = 0;
     let mut at = ENTRIES;
     let mut left = n;
     while 0 < left {
-        if word(sheet, at) == pack
-            && word(sheet, at + FIRST) <= tick
-            && tick < word(sheet, at + END)
-        {
+        if runs(entry_at(sheet, at), pack, tick) {
             found += 1;
         }
         at += ENTRY;

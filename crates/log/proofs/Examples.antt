@@ -4,7 +4,6 @@
 use mathlib.Core.Path.{_≡_, refl}
 use mathlib.Core.List.{List, [], _∷_}
 use Prim.Native.Nat.{ℕ}
-use Rattle.log.specs.Decimal.{decimalIn, decimal}
 use Rattle.log.specs.Listing.{lineRoom, listingRoom}
 use Rattle.log.specs.Log.{formPlace, eventSize, mostEvents, leastForm, mostForm, leastOffset, mostOffset, logNumber, logTold}
 use Rattle.fields.specs.Field.{field}
@@ -12,11 +11,6 @@ use Rattle.fields.specs.Field.{field}
 limits : (formPlace ≡ 12) × (eventSize ≡ 12) × (mostEvents ≡ 4096) × (leastForm ≡ 8) × (mostForm ≡ 1000) × (leastOffset ≡ 20)
     × (mostOffset ≡ 1012) × (lineRoom ≡ 46) × (listingRoom ≡ 188462)
 limits = (refl, refl, refl, refl, refl, refl, refl, refl, refl)
-
-digits : (decimal 0 ≡ 48 ∷ []) × (decimal 9 ≡ 57 ∷ []) × (decimal 10 ≡ 49 ∷ 48 ∷ [])
-    × (decimal 4000000000 ≡ 52 ∷ 48 ∷ 48 ∷ 48 ∷ 48 ∷ 48 ∷ 48 ∷ 48 ∷ 48 ∷ 48 ∷ [])
-unfolding decimal decimalIn
-digits = (refl, refl, refl, refl)
 
 -- three events of (echo, 0), from 11, 22 and 33
 log : List ℕ

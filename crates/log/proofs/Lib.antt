@@ -1,10 +1,7 @@
 -- The laws and theorems of `log` that belong to no single function.
 mod Examples
-pub mod Decimals
-pub mod Lays
 pub mod Lines
 pub mod LogTrip
 pub mod Logs
 pub mod Meaning
-pub mod Puts
 pub mod Single

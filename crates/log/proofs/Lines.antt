@@ -10,9 +10,9 @@ use lib.ListN.{getD}
 use Rattle.fields.specs.Field.{field}
 use Rattle.node.specs.Calls.{Outcome}
 use Rattle.node.specs.Image.{Layout, nodeOf}
+use Rattle.text.specs.Puts.{Puts}
 use Rattle.log.specs.Listing.{line, lineRoom, lineOf, eventCall, eventLines, callLines}
 use Rattle.log.specs.Log.{eventSize, countOf, eventsAt}
-use Rattle.log.specs.Puts.{Puts}
 
 -- a line that shows a call's number and records, and the k and mode of its image, is the call's line
 pub puts-call : {out after : List ℕ} {i next k : ℕ} (e : ℕ) {o called : Outcome} → o ≡ called → k ≡ field 4 (o .image) 8 →

@@ -11,11 +11,12 @@ use Rattle.fields.specs.Field.{field, putField, Bytes}
 use Rattle.forms.specs.Form.{WriteTold, doneWrite}
 use Rattle.fields.proofs.Fields.{drop-put, field-same, field-put, field-put-other, length-put, take-put-field}
 use Rattle.forms.proofs.Meaning.{told}
+use Rattle.text.specs.Lay.{lay}
+use Rattle.text.proofs.Lays.{take-lay, drop-lay, length-lay}
 use Rattle.log.specs.Log.{formPlace, eventSize, countOf, formAt, eventsAt, formOf, eventsOf, logNumber, LogTold, logTold}
-use Rattle.log.specs.Log.{lay, logSize, putHead, putLog, logWritten}
+use Rattle.log.specs.Log.{logSize, putHead, putLog, logWritten}
 use Rattle.log.specs.Table.{Laid, Fit}
 use Rattle.log.proofs.Meaning.{log-taken, log-told}
-use Rattle.log.proofs.Lays.{take-lay, drop-lay, length-lay}
 use Rattle.log.proofs.Logs.{told-laid, written-fit}
 use Rattle.log.proofs.Logs.{Answer, wrote, refused, answer}
 

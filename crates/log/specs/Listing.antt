@@ -11,16 +11,12 @@ use Rattle.forms.specs.Frame.{frameSize}
 use Rattle.rules.specs.Describe.{room}
 use Rattle.node.specs.Calls.{Outcome, booted, deliverOutcome}
 use Rattle.node.specs.Image.{Layout, mostImage, nodeOf}
-use Rattle.log.specs.Decimal.{decimal}
-use Rattle.log.specs.Log.{framePlace, eventSize, mostEvents, countOf, eventsAt, formOf, logNumber, lay}
+use Rattle.text.specs.Characters.{blank, newline}
+use Rattle.text.specs.Decimal.{mostDigits, decimal}
+use Rattle.text.specs.Lay.{lay}
+use Rattle.log.specs.Log.{framePlace, eventSize, mostEvents, countOf, eventsAt, formOf, logNumber}
 
--- ---- characters
-
-abbrev pub blank : ℕ
-blank = 32
-
-abbrev pub newline : ℕ
-newline = 10
+-- ---- the letters of the modes
 
 abbrev pub letterP : ℕ
 letterP = 112
@@ -29,10 +25,6 @@ abbrev pub letterA : ℕ
 letterA = 97
 
 -- ---- the most bytes of each part
-
--- a number of 32 bits has at most ten digits
-abbrev pub mostDigits : ℕ
-mostDigits = 10
 
 -- a column is a number and a blank
 abbrev pub columnRoom : ℕ

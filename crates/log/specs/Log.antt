@@ -2,13 +2,14 @@
 -- e, then 12 bytes for each event: port serial, frame. What its reader gives and what its writer leaves, for every input. Event bytes
 -- are not judged here.
 use Prim.Native.Nat.{ℕ, _+_, _-_, _*_, _/_, _%_}
-use mathlib.Core.List.{List, _++_}
+use mathlib.Core.List.{List}
 use mathlib.Core.Bool.{Bool, cond, not, _||_}
 use lib.ListN.{length, take, drop}
 use lib.Dec.{ltb, eqb}
 use Rattle.fields.specs.Field.{field, putField}
 use Rattle.forms.specs.Form.{WriteTold, doneWrite, refusedWrite, writeTold}
 use Rattle.forms.specs.Frame.{frameSize}
+use Rattle.text.specs.Lay.{lay}
 use Rattle.log.specs.declared.file.LogRead.{LogRead}
 use Rattle.log.specs.declared.file.LogRead.the-variants.{Taken, Refused}
 use Rattle.log.specs.declared.file.LogWritten.{LogWritten}
@@ -107,10 +108,6 @@ writeNumber form events = cond (unfit form events) 13 0
 -- the length of a log with these parts
 abbrev pub logSize : List ℕ → List ℕ → ℕ
 logSize form events = formPlace + length form + length events
-
--- bytes laid over a list from place i on; what stands behind stays
-unfoldable pub lay : List ℕ → ℕ → List ℕ → List ℕ
-lay out i bytes = take i out ++ bytes ++ drop (i + length bytes) out
 
 -- the three numbers in front of the form
 abbrev pub putHead : List ℕ → List ℕ → List ℕ → List ℕ

@@ -6,9 +6,9 @@ use lib.ListN.{length}
 use Rattle.forms.specs.Form.{WriteTold, doneWrite, refusedWrite}
 use Rattle.node.specs.Calls.{Outcome}
 use Rattle.node.specs.Image.{headerSize}
+use Rattle.text.specs.Puts.{Puts}
 use Rattle.log.specs.Listing.{lineOf, lineRoom}
 use Rattle.log.specs.Log.{formPlace, eventSize, mostEvents, countOf, eventsAt}
-use Rattle.log.specs.Puts.{Puts}
 use Rattle.log.specs.declared.file.Log.{Log}
 use Rattle.log.specs.declared.player.Call.{Call}
 use Rattle.log.specs.declared.player.Played.{Played}

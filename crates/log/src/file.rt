@@ -2,10 +2,9 @@
 use fields::field::put_word;
 use fields::field::word;
 use forms::frame::FRAME;
+use text::put::put_bytes;
 ghost use mathlib.Core.Path.{_≡_};
-ghost use Prim.Native.Nat.{_+_, _≤_};
-ghost use lib.ListN.{length};
-ghost use Rattle.log.specs.Log.{toldBy, logTold, lay, writtenBy, logWritten};
+ghost use Rattle.log.specs.Log.{toldBy, logTold, writtenBy, logWritten};
 
 // Where the form stands: behind the count and the two offsets.
 pub(crate) const FORM_PLACE: usize = 12;
@@ -83,18 +82,6 @@ pub enum LogWritten {
     Broken,
     // number 7: output shorter than what would be written
     NoRoom,
-}
-
-// Lays bytes over the output from place i on.
-pub(crate) fn put_bytes(out: &mut [u8], i: usize, bytes: &[u8])
-    requires { ⌜ i + length (now bytes) ≤ length (now out) ⌝ }
-    ensures { λ _. ⌜ now (out .exit) ≡ lay (now (out .entry)) i (now (bytes .entry)) ⌝ }
-{
-    let mut k = 0;
-    while k < bytes.len() {
-        out[i + k] = bytes[k];
-        k += 1;
-    }
 }
 
 pub fn write_log(form: &[u8], events: &[u8], out: &mut [u8]) -> LogWritten

@@ -5,7 +5,6 @@ use crate::file::FRAME_PLACE;
 use crate::file::Log;
 use crate::file::LogRead;
 use crate::file::MOST_EVENTS;
-use crate::file::put_bytes;
 use crate::file::read_log;
 use fields::field::word;
 use node::calls;
@@ -14,6 +13,8 @@ use node::image::MODE_PLACE;
 use node::image::MOST_IMAGE;
 use node::image::TICK_PLACE;
 use rules::node::Node;
+use text::decimal::MOST_DIGITS;
+use text::decimal::put_decimal;
 ghost use mathlib.Core.Path.{_≡_};
 ghost use mathlib.Core.List.{List};
 ghost use Prim.Native.Nat.{ℕ, _+_, _*_, _≤_};
@@ -22,18 +23,11 @@ ghost use Rattle.rules.specs.Describe.{lastTick};
 ghost use Rattle.node.specs.Answers.{outcomeBy};
 ghost use Rattle.node.specs.Calls.{booted};
 ghost use Rattle.node.specs.Image.{headerSize, layout};
-ghost use Rattle.log.specs.Decimal.{decimal};
-ghost use Rattle.log.specs.Listing.{mostDigits, columnRoom, lineRoom, listingRoom, imageLent, outLent};
+ghost use Rattle.text.specs.Puts.{Puts};
+ghost use Rattle.log.specs.Listing.{columnRoom, lineRoom, listingRoom, imageLent, outLent};
 ghost use Rattle.log.specs.Listing.{column, modeLetter, line, eventCall, eventLines, callLines, played};
 ghost use Rattle.log.specs.Log.{formOf};
 ghost use Rattle.log.specs.Played.{playedBy, TakenLog, CallShown, EventAsked, EventsAsked};
-ghost use Rattle.log.specs.Puts.{Puts};
-
-// The most digits of a number of 32 bits.
-const MOST_DIGITS: usize = 10;
-
-// Room that the kit asks for the digits of any number.
-const DIGITS_ASKED: usize = 20;
 
 // The most bytes of a line, 46: four numbers with a blank each, the mode and the newline.
 const LINE_ROOM: usize = 4 * (MOST_DIGITS + 1) + 2;
@@ -46,17 +40,6 @@ pub enum Played {
     Listed(usize),
     // number 7: less room than every listing fits
     NoRoom,
-}
-
-// Puts a number in decimal digits at place i, and gives the place behind it.
-fn put_decimal(out: &mut [u8], i: usize, n: u32) -> usize
-    requires { ⌜ i + mostDigits ≤ length (now out) ⌝ }
-    ensures { λ r. ⌜ Puts (now (out .entry)) i (decimal n) mostDigits (now (out .exit)) r ⌝ }
-{
-    let mut text = [0u8; DIGITS_ASKED];
-    let k = io::decimal(n as u64, &mut text);
-    put_bytes(out, i, &text[..k]);
-    i + k
 }
 
 // Puts a number and a space.

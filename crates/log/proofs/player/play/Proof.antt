@@ -16,7 +16,7 @@ use Rattle.log.specs.Listing.{line, imageLent, outLent, callLines, listi
 use Rattle.log.specs.Log.{LogTold, countOf, eventsAt, formOf, broken, logNumber, logTold, toldBy}
 use Rattle.forms.specs.Form.{doneWrite, refusedWrite}
 use Rattle.log.specs.Played.{TakenLog}
-use Rattle.log.specs.Puts.{Puts}
+use Rattle.text.specs.Puts.{Puts}
 use Rattle.log.specs.declared.file.Log.{Log}
 use Rattle.log.specs.declared.file.LogRead.the-variants.{Taken, Refused}
 use Rattle.log.specs.Table.{Laid}

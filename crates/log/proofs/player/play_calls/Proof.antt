@@ -17,7 +17,7 @@ use Rattle.log.specs.Played.{CallShown, TakenLog}
 use Rattle.log.specs.declared.file.Log.{Log}
 use Rattle.log.specs.declared.player.Call.{Call}
 use Rattle.log.proofs.Lines.{lines-refused, lines-taken}
-use Rattle.log.proofs.Puts.{puts-as, puts-then}
+use Rattle.text.proofs.Puts.{puts-as, puts-then}
 use Rattle.log.proofs.player.play_calls.Statement.{statement}
 use Rattle.log.proofs.player.play_calls.Tie as tie
 

@@ -14,10 +14,10 @@ use Rattle.node.specs.Image.{layout}
 use Rattle.log.specs.Listing.{lineRoom, lineOf, eventCall, eventLines}
 use Rattle.log.specs.Log.{eventSize}
 use Rattle.log.specs.Played.{CallShown}
-use Rattle.log.specs.Puts.{Puts}
+use Rattle.text.specs.Puts.{Puts}
 use Rattle.log.specs.declared.player.Call.{Call}
 use Rattle.log.proofs.Lines.{lines-step, lines-end}
-use Rattle.log.proofs.Puts.{puts-none, puts-as, puts-then}
+use Rattle.text.proofs.Puts.{puts-none, puts-as, puts-then}
 use Rattle.log.proofs.player.play_events.Statement.{statement}
 use Rattle.log.proofs.player.play_events.Tie as tie
 

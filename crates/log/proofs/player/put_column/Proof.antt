@@ -4,7 +4,7 @@ use borrow.Author.Needs.{needs}
 use mathlib.Core.Path.{refl}
 use native.Mathlib.Omega.{arith}
 use Rattle.log.specs.Listing.{column}
-use Rattle.log.proofs.Puts.{puts-one, puts-then}
+use Rattle.text.proofs.Puts.{puts-one, puts-then}
 use Rattle.log.proofs.player.put_column.Statement.{statement}
 use Rattle.log.proofs.player.put_column.Tie as tie
 

@@ -5,7 +5,7 @@ use mathlib.Core.Path.{refl, ap}
 use native.Mathlib.Omega.{arith}
 use lib.ListN.{set, length-set}
 use Rattle.log.specs.Listing.{line}
-use Rattle.log.proofs.Puts.{puts-one, puts-then}
+use Rattle.text.proofs.Puts.{puts-one, puts-then}
 use Rattle.log.proofs.player.put_line.Statement.{statement}
 use Rattle.log.proofs.player.put_line.Tie as tie
 

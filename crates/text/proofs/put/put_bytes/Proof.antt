@@ -1,4 +1,4 @@
--- `file::put_bytes` meets its contract: after k turns the first k bytes are copied, and a turn copies the next one behind them.
+-- `put::put_bytes` meets its contract: after k turns the first k bytes are copied, and a turn copies the next one behind them.
 -- Assumes nothing.
 use mathlib.Core.Path.{_≡_, sym, ap, _∙_}
 use Prim.Native.Nat.{_-_, _≤_}
@@ -6,9 +6,9 @@ use native.Mathlib.Numerals.{add-one}
 use native.Mathlib.Omega.{arith}
 use lib.ListN.{length}
 use lib.Seq.{paste, paste-zero, paste-suc, length-paste}
-use Rattle.log.proofs.Lays.{lay-paste}
-use Rattle.log.proofs.file.put_bytes.Statement.{statement}
-use Rattle.log.proofs.file.put_bytes.Tie as tie
+use Rattle.text.proofs.Lays.{lay-paste}
+use Rattle.text.proofs.put.put_bytes.Statement.{statement}
+use Rattle.text.proofs.put.put_bytes.Tie as tie
 
 abbrev Inv-loop : tie.InvT-loop
 Inv-loop out₀ i bytes k₀ out k = (k ≤ length bytes) × (out ≡ paste out₀ i bytes k)

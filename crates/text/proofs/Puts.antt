@@ -6,9 +6,9 @@ use mathlib.Core.List.{List, [], _∷_, _++_}
 use Prim.Native.Nat.{ℕ, _+_, _≤_, _<_}
 use native.Mathlib.Omega.{arith}
 use lib.ListN.{length, set, length-append}
-use Rattle.log.specs.Log.{lay}
-use Rattle.log.specs.Puts.{Puts}
-use Rattle.log.proofs.Lays.{lay-none, lay-append, lay-one}
+use Rattle.text.specs.Lay.{lay}
+use Rattle.text.specs.Puts.{Puts}
+use Rattle.text.proofs.Lays.{lay-none, lay-append, lay-one}
 
 pub puts-none : {out : List ℕ} {i : ℕ} → Puts out i [] 0 out i
 puts-none {out} {i} = record { behind = omega arith; within = omega arith; left = sym (lay-none out i) }

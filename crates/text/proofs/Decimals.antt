@@ -8,8 +8,7 @@ use native.Mathlib.Decide.{decLe}
 use native.Mathlib.Omega.{arith}
 use borrow.Author.Tests.{lt-ltb, le-ltb}
 use Rattle.io.specs.Digits.{digits, Fewest, glyph}
-use Rattle.log.specs.Decimal.{decimalIn, decimal}
-use Rattle.log.specs.Listing.{mostDigits}
+use Rattle.text.specs.Decimal.{mostDigits, decimalIn, decimal}
 
 -- a digit below ten is its code
 glyph-ten : (n : ℕ) → glyph (n % 10) ≡ 48 + n % 10

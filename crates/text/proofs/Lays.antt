@@ -8,7 +8,7 @@ use native.Mathlib.Omega.{arith}
 use mathlib.Core.List.{List, [], _∷_, _++_, append-assoc}
 use lib.ListN.{length, set, take, drop, length-append}
 use lib.Seq.{take-length, drop-drop, sets-eq, paste, paste-zero, length-paste, take-paste, drop-paste}
-use Rattle.log.specs.Log.{lay}
+use Rattle.text.specs.Lay.{lay}
 
 pub lay-paste : (out : List ℕ) (i : ℕ) (bytes : List ℕ) → lay out i bytes ≡ paste out i bytes (length bytes)
 unfolding lay

@@ -5,6 +5,10 @@ use mathlib.Core.List.{List, [], _∷_, _++_}
 use mathlib.Core.Bool.{cond}
 use lib.Dec.{ltb}
 
+-- a number of 32 bits has at most ten digits
+abbrev pub mostDigits : ℕ
+mostDigits = 10
+
 -- the character of a digit
 abbrev pub digit : ℕ → ℕ
 digit d = 48 + d

@@ -1,4 +1,4 @@
--- `player::put_decimal` meets its contract: what `io::decimal` makes is the number's digits, at most ten of them, and they are laid down.
+-- `decimal::put_decimal` meets its contract: what `io::decimal` makes is the number's digits, at most ten of them, and they are laid down.
 -- Assumes nothing.
 use borrow.Author.Needs.{needs}
 use mathlib.Core.Path.{_≡_, ap, _∙_}
@@ -6,12 +6,11 @@ use Prim.Native.Nat.{_≤_}
 use native.Mathlib.Omega.{arith}
 use lib.ListN.{length, take}
 use denote.Ref.{now}
-use Rattle.log.specs.Decimal.{decimal}
-use Rattle.log.specs.Listing.{mostDigits}
-use Rattle.log.specs.Log.{lay}
-use Rattle.log.proofs.Decimals.{digits-decimal, few-digits}
-use Rattle.log.proofs.player.put_decimal.Statement.{statement}
-use Rattle.log.proofs.player.put_decimal.Tie as tie
+use Rattle.text.specs.Decimal.{mostDigits, decimal}
+use Rattle.text.specs.Lay.{lay}
+use Rattle.text.proofs.Decimals.{digits-decimal, few-digits}
+use Rattle.text.proofs.decimal.put_decimal.Statement.{statement}
+use Rattle.text.proofs.decimal.put_decimal.Tie as tie
 
 decimal-requires : tie.Need-decimal-requires
 decimal-requires c κs = search needs

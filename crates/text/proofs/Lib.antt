@@ -3,3 +3,4 @@ mod Examples
 pub mod Decimals
 pub mod Lays
 pub mod Puts
+pub mod Readings

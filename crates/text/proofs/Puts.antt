@@ -1,14 +1,14 @@
--- Laws of text that is put: none, one byte, more room or the same text, and what two writers put of which the second goes on where
--- the first stopped.
+-- Laws of text that is put: none, one byte, the length, more room or the same text, and what two writers put of which the second goes
+-- on where the first stopped.
 -- Assumes nothing.
-use mathlib.Core.Path.{_≡_, sym, ap₂, _∙_, subst}
+use mathlib.Core.Path.{_≡_, sym, ap, ap₂, _∙_, subst}
 use mathlib.Core.List.{List, [], _∷_, _++_}
 use Prim.Native.Nat.{ℕ, _+_, _≤_, _<_}
 use native.Mathlib.Omega.{arith}
 use lib.ListN.{length, set, length-append}
 use Rattle.text.specs.Lay.{lay}
 use Rattle.text.specs.Puts.{Puts}
-use Rattle.text.proofs.Lays.{lay-none, lay-append, lay-one}
+use Rattle.text.proofs.Lays.{length-lay, lay-none, lay-append, lay-one}
 
 pub puts-none : {out : List ℕ} {i : ℕ} → Puts out i [] 0 out i
 puts-none {out} {i} = record { behind = omega arith; within = omega arith; left = sym (lay-none out i) }
@@ -16,6 +16,11 @@ puts-none {out} {i} = record { behind = omega arith; within = omega arith; left 
 pub puts-one : {out : List ℕ} {i x : ℕ} {after : List ℕ} {next : ℕ} →
     i < length out → next ≡ i + 1 → after ≡ set out i x → Puts out i (x ∷ []) 1 after next
 puts-one {out} {i} {x} p e f = record { behind = e; within = omega arith; left = f ∙ sym (lay-one out i x p) }
+
+-- text that fits leaves the length
+pub puts-length : {out : List ℕ} {i : ℕ} {text : List ℕ} {room : ℕ} {after : List ℕ} {next : ℕ} →
+    Puts out i text room after next → i + room ≤ length out → length after ≡ length out
+puts-length {out} {i} {text} put fits = ap length (put .left) ∙ length-lay out i text (omega arith)
 
 pub puts-as : {out : List ℕ} {i : ℕ} {xs ys : List ℕ} {r s : ℕ} {after : List ℕ} {next : ℕ} →
     xs ≡ ys → r ≤ s → Puts out i xs r after next → Puts out i ys s after next

@@ -10,7 +10,7 @@ blank = 32
 abbrev pub newline : ℕ
 newline = 10
 
--- the bytes of a text
+-- the bytes of a text of ASCII characters
 abbrev pub ascii : String → List ℕ
 ascii end = []
 ascii (c then s) = code c ∷ ascii s

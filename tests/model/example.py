@@ -15,7 +15,8 @@ def form(own):
     return bytes([4, 1, 0, 8]) + b"".join(s.to_bytes(4, "big") for s in [own] + SERIALS)
 
 
-def main():
+def run():
+    """Runs the truck; gives the log and the images of the controllers that are up."""
     rng = random.Random(11)
     images, wire, log = {}, [], []
 
@@ -50,7 +51,8 @@ def main():
         _, records = node.deliver(images[dest], sender, frame, out)
         send(dest, out, records)
     head = b"".join(x.to_bytes(4, "big") for x in [len(log), 12, 12 + len(form(11))])
-    sys.stdout.buffer.write(head + form(11) + b"".join(log))
+    return head + form(11) + b"".join(log), images
 
 
-main()
+if __name__ == "__main__":
+    sys.stdout.buffer.write(run()[0])

@@ -1,0 +1,92 @@
+#!/usr/bin/env python3
+"""Sheets and images for the desk's program, which tests/pack/run asks about. They are made, not stored; the model in node.py says which
+number each image has, and the test states the answers.
+
+usage: desk.py FOLDER      writes NAME.sheet and NAME.image each into the folder"""
+import pathlib
+import sys
+
+import node
+from packs import ENTRIES, image, sheet
+
+ACTIVE = image()
+CLOCK = node.read(ACTIVE)[1]
+MOST = 2**32 - 1
+
+# packs 1 and 5 and the greatest number are in force at the clock, each at an edge; 2, 3 and 4 are not
+EDGES = [
+    (1, CLOCK, CLOCK + 1),
+    (2, CLOCK + 1, MOST),
+    (3, 0, CLOCK),
+    (4, CLOCK, CLOCK),
+    (5, 0, MOST),
+    (MOST, CLOCK, MOST),
+]
+FULL = sheet([(pack, 0, pack) for pack in range(1, 201)])
+GOOD = sheet(ENTRIES)
+
+SHEETS = {
+    "good": GOOD,
+    "edges": sheet(EDGES),
+    "edges-reversed": sheet(EDGES[::-1]),
+    "no-entry": sheet([]),
+    "full": FULL,
+    # 14
+    "empty": b"",
+    "three-bytes": GOOD[:3],
+    "header-alone": GOOD[:4],
+    "a-byte-less": GOOD[:-1],
+    "a-byte-more": GOOD + b"\0",
+    "offset-5": GOOD[:3] + b"\5" + GOOD[4:],
+    "201-entries": sheet([(pack, 0, pack) for pack in range(1, 202)]),
+    "2405-bytes": FULL + b"\0",
+    "four-times-full": FULL * 4,
+    # 15, the last two with a wrong entry of 16 before and behind
+    "pack-0": sheet([(1, 0, 9), (0, 0, 9)]),
+    "twice": sheet([(2, 0, 9), (1, 0, 9), (2, 0, 9)]),
+    "backward-then-0": sheet([(1, 9, 8), (0, 0, 9)]),
+    "twice-then-backward": sheet([(1, 0, 9), (1, 0, 9), (2, 9, 8)]),
+    # 16
+    "backward": sheet([(1, 0, 9), (2, 9, 8)]),
+}
+
+
+def written(state, evidence):
+    data = bytearray(node.HEADER + node.ROW * state.n)
+    node.write_image(state, evidence, data)
+    return bytes(data)
+
+
+def silent(count, active):
+    """An image of so many controllers from which nothing was heard."""
+    nothing = {serial: {node.ECHO: set(), node.INIT: set()} for serial in range(1, count + 1)}
+    return written(node.Node(count, (count - 1) // 3, 1, active, CLOCK, CLOCK), nothing)
+
+
+# each with the number and the clock that read gives
+IMAGES = {
+    "active": (ACTIVE, (0, CLOCK)),
+    "bytes-behind": (ACTIVE + b"\xff" * 5000, (0, CLOCK)),
+    "longest": (silent(32, True), (0, CLOCK)),
+    "longest-and-more": (silent(32, True) + b"\xff", (0, CLOCK)),
+    "passive": (silent(4, False), (12, 0)),
+    "empty": (b"", (8, 0)),
+    "short": (ACTIVE[:31], (8, 0)),
+    "cut": (ACTIVE[:-1], (8, 0)),
+    "byte-3": (ACTIVE[:3] + b"\2" + ACTIVE[4:], (8, 0)),
+    "size-929": (ACTIVE[:18] + (929).to_bytes(2, "big") + ACTIVE[20:] + bytes(2000), (8, 0)),
+}
+
+
+def main():
+    if len(sys.argv) != 2:
+        sys.exit(__doc__)
+    folder = pathlib.Path(sys.argv[1])
+    for name, data in SHEETS.items():
+        (folder / f"{name}.sheet").write_bytes(data)
+    for name, (data, told) in IMAGES.items():
+        assert node.read(data) == told, name
+        (folder / f"{name}.image").write_bytes(data)
+
+
+main()

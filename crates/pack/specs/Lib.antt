@@ -1,2 +1,3 @@
--- What the functions of the program promise one another.
+-- What the program prints, and what its functions promise one another.
 pub mod File
+pub mod Line

@@ -1,14 +1,15 @@
 // The desk's program: whether a pack is in force at the clock of a node. Its arguments are the names of a sheet and of an image, and a
-// pack number in decimal. It reads, asks and writes, and nothing else: what it prints about a question is made by packs::desk.
+// pack number in decimal. It reads, asks and writes, and nothing else: what it prints about a question is made by line::show.
 mod file;
+mod line;
 
 use file::Contents;
 use file::read_file;
 use libc::STDERR_FILENO;
 use libc::STDOUT_FILENO;
+use line::LINE_ROOM;
+use line::show;
 use node::image::MOST_IMAGE;
-use packs::desk::LINE_ROOM;
-use packs::desk::show;
 use packs::sheet::LONGEST;
 use text::decimal::Decimal;
 use text::decimal::read_decimal;

@@ -1,6 +1,5 @@
 -- The definitions of pack sheets: what a reader has to believe.
 pub mod Answers
-pub mod Desk
 pub mod Number
 pub mod Question
 pub mod Sheet

@@ -2,7 +2,6 @@
 // writer. A pack is found by its number and never by its place on the sheet.
 pub mod answer;
 pub mod calls;
-pub mod desk;
 pub mod question;
 pub mod sheet;
 pub mod writer;

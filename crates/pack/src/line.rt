@@ -1,7 +1,7 @@
-// The desk: all that its program prints about a question, made in bytes that the program lends.
-use crate::answer::Licence;
-use crate::calls;
-use crate::calls::PackAnswer;
+// The line that the program prints about a question, made in bytes that it lends.
+use packs::answer::Licence;
+use packs::calls;
+use packs::calls::PackAnswer;
 use text::decimal::MOST_DIGITS;
 use text::decimal::put_decimal;
 use text::put::put_text;
@@ -10,9 +10,9 @@ ghost use Rattle.rules.specs.Describe.{lastTick};
 ghost use Rattle.node.specs.Image.{layout};
 ghost use Rattle.text.specs.Characters.{newline};
 ghost use Rattle.text.specs.Puts.{Puts};
 ghost use Rattle.packs.specs.Answers.{packBy};
-ghost use Rattle.packs.specs.Desk.{standing, refusal, line, lineRoom};
+ghost use Rattle.pack.specs.Line.{standing, refusal, line, lineRoom};
 ghost use Rattle.packs.specs.Question.{packTold};
 
 // Bytes of "refused ".
 const REFUSED: usize = 8;

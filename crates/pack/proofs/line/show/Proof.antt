@@ -1,12 +1,12 @@
--- `desk::show` meets its contract: the line is that of the call's answer.
+-- `line::show` meets its contract: the line is that of the call's answer.
 -- Assumes nothing.
 use borrow.Author.Needs.{needs}
 use mathlib.Core.Path.{ap}
 use native.Mathlib.Omega.{arith}
 use Rattle.text.proofs.Puts.{puts-as}
-use Rattle.packs.specs.Desk.{line}
-use Rattle.packs.proofs.desk.show.Statement.{statement}
-use Rattle.packs.proofs.desk.show.Tie as tie
+use Rattle.pack.specs.Line.{line}
+use Rattle.pack.proofs.line.show.Statement.{statement}
+use Rattle.pack.proofs.line.show.Tie as tie
 
 pack-requires : tie.Need-pack-requires
 pack-requires c κs = search needs

@@ -1,11 +1,11 @@
--- `desk::put_refusal` meets its contract: the word, the digits and the newline are laid one behind the other.
+-- `line::put_refusal` meets its contract: the word, the digits and the newline are laid one behind the other.
 -- Assumes nothing.
 use borrow.Author.Needs.{needs}
 use native.Mathlib.Omega.{arith}
 use Rattle.text.proofs.Puts.{puts-then}
-use Rattle.packs.specs.Desk.{refusal}
-use Rattle.packs.proofs.desk.put_refusal.Statement.{statement}
-use Rattle.packs.proofs.desk.put_refusal.Tie as tie
+use Rattle.pack.specs.Line.{refusal}
+use Rattle.pack.proofs.line.put_refusal.Statement.{statement}
+use Rattle.pack.proofs.line.put_refusal.Tie as tie
 
 slice-aggregate-put-text : tie.Need-slice-aggregate-put-text
 slice-aggregate-put-text c = search needs

@@ -1,12 +1,12 @@
--- `desk::put_answer` meets its contract: its test is the definition's.
+-- `line::put_answer` meets its contract: its test is the definition's.
 -- Assumes nothing.
 use borrow.Author.Needs.{needs}
 use mathlib.Core.Path.{_≡_}
 use native.Mathlib.Omega.{arith}
 use borrow.Author.Tests.{eq-eqb, ne-eqb}
-use Rattle.packs.specs.Desk.{line}
-use Rattle.packs.proofs.desk.put_answer.Statement.{statement}
-use Rattle.packs.proofs.desk.put_answer.Tie as tie
+use Rattle.pack.specs.Line.{line}
+use Rattle.pack.proofs.line.put_answer.Statement.{statement}
+use Rattle.pack.proofs.line.put_answer.Tie as tie
 
 put-refusal-requires : tie.Need-put-refusal-requires
 put-refusal-requires c κs = search needs

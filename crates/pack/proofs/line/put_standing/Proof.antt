@@ -1,14 +1,14 @@
--- `desk::put_standing` meets its contract: the words of each number are those of the definition.
+-- `line::put_standing` meets its contract: the words of each number are those of the definition.
 -- Assumes nothing.
 use borrow.Author.Needs.{needs}
 use mathlib.Core.Path.{_≡_, refl}
 use native.Mathlib.Omega.{arith}
 use borrow.Author.Tests.{eq-eqb, ne-eqb}
 use Rattle.text.proofs.Puts.{puts-as}
-use Rattle.packs.specs.Desk.{standing}
+use Rattle.pack.specs.Line.{standing}
 use Rattle.packs.specs.Number.{notInForce, inForce}
-use Rattle.packs.proofs.desk.put_standing.Statement.{statement}
-use Rattle.packs.proofs.desk.put_standing.Tie as tie
+use Rattle.pack.proofs.line.put_standing.Statement.{statement}
+use Rattle.pack.proofs.line.put_standing.Tie as tie
 
 number-requires : tie.Need-number-requires
 number-requires c κs = search needs

@@ -3,7 +3,7 @@
 use mathlib.Core.Path.{_≡_, refl, sym, ap, _∙_}
 use mathlib.Core.List.{List}
 use Prim.Native.Nat.{ℕ}
-use mathlib.Core.Bool.{cond}
+use mathlib.Core.Bool.{false, cond}
 use lib.Dec.{eqb}
 use Rattle.forms.specs.Number.{numberOf, verdictOf}
 use Rattle.forms.specs.Form.{FormTold, WriteTold, writtenBy}
@@ -59,55 +59,60 @@ one-write tell answerOf is a b out other e =
 
 -- ---- answers that hold a refusal
 
--- the answer that tells t: what is taken, or the case that the number stands for
-answerTo : {A T : Type 0} → (T → ℕ) → (T → A) → (Refusal → A) → T → A
-answerTo number taken refused t = cond (eqb (number t) 0) (taken t) (refused (caseOf (number t)))
+-- the answer that a number says: what is taken where it is 0, else the case that it stands for
+unfoldable pub answerTo : {R A : Type 0} → (ℕ → R) → A → (R → A) → ℕ → A
+answerTo caseOf taken refused n = cond (eqb n 0) taken (refused (caseOf n))
 
--- a refusal is had again
-refused-again : {A T : Type 0} (number : T → ℕ) (taken : T → A) (refused : Refusal → A) (t : T) (why : Refusal) →
-    number t ≡ numberOf why →
-    answerTo number taken refused t ≡ refused why
+-- a refusal is had again from its number
+pub refused-again : {R A : Type 0} (caseOf : ℕ → R) (taken : A) (refused : R → A) (n : ℕ) (why : R) →
+    eqb n 0 ≡ false → caseOf n ≡ why → answerTo caseOf taken refused n ≡ refused why
 unfolding answerTo
-refused-again number taken refused t why e = rw (e, refusal why) (ap refused (back why))
+refused-again caseOf taken refused n why some back = rw some (ap refused back)
 
-judged : (a : Verdict) → answerTo (λ n. n) (λ n. Sound) Broken (verdictOf a) ≡ a
-unfolding answerTo
+-- of this layer
+again : {A : Type 0} (taken : A) (refused : Refusal → A) (why : Refusal) → answerTo caseOf taken refused (numberOf why) ≡ refused why
+again taken refused why = refused-again caseOf taken refused (numberOf why) why (refusal why) (back why)
+
+judgeOf : ℕ → Verdict
+judgeOf n = answerTo caseOf Sound Broken n
+
+judged : (a : Verdict) → judgeOf (verdictOf a) ≡ a
+unfolding judgeOf answerTo
 judged Sound = refl
-judged (Broken why) = refused-again (λ n. n) (λ n. Sound) Broken (numberOf why) why refl
+judged (Broken why) = again Sound Broken why
 
 pub one-verdict : (a b : Verdict) → verdictOf a ≡ verdictOf b → a ≡ b
-one-verdict = one-answer verdictOf (answerTo (λ n. n) (λ n. Sound) Broken) judged
+one-verdict = one-answer verdictOf judgeOf judged
 
 formOf : FormTold → FormRead
-formOf t = form.Taken (record { lines = t .lines; faults = t .faults; own = t .own })
+formOf t = answerTo caseOf (form.Taken (record { lines = t .lines; faults = t .faults; own = t .own })) form.Refused (t .number)
 
-form-read : (a : FormRead) → answerTo (λ t. t .number) formOf form.Refused (formBy a) ≡ a
-unfolding answerTo formOf
+form-read : (a : FormRead) → formOf (formBy a) ≡ a
+unfolding formOf answerTo
 form-read (form.Taken x) = refl
-form-read (form.Refused why) = refused-again (λ t. t .number) formOf form.Refused (formBy (form.Refused why)) why refl
+form-read (form.Refused why) = again (form.Taken (record { lines = 0; faults = 0; own = 0 })) form.Refused why
 
 pub one-form : (a b : FormRead) → formBy a ≡ formBy b → a ≡ b
-one-form = one-answer formBy (answerTo (λ t. t .number) formOf form.Refused) form-read
+one-form = one-answer formBy formOf form-read
 
 frameOf : FrameTold → FrameRead
-frameOf t = frame.Taken (record { kind = t .kind; tick = t .tick })
+frameOf t = answerTo caseOf (frame.Taken (record { kind = t .kind; tick = t .tick })) frame.Refused (t .number)
 
-frame-read : (a : FrameRead) → answerTo (λ t. t .number) frameOf frame.Refused (frameBy a) ≡ a
-unfolding answerTo frameOf
+frame-read : (a : FrameRead) → frameOf (frameBy a) ≡ a
+unfolding frameOf answerTo
 frame-read (frame.Taken x) = refl
-frame-read (frame.Refused why) = refused-again (λ t. t .number) frameOf frame.Refused (frameBy (frame.Refused why)) why refl
+frame-read (frame.Refused why) = again (frame.Taken (record { kind = 0; tick = 0 })) frame.Refused why
 
 pub one-frame : (a b : FrameRead) → frameBy a ≡ frameBy b → a ≡ b
-one-frame = one-answer frameBy (answerTo (λ t. t .number) frameOf frame.Refused) frame-read
+one-frame = one-answer frameBy frameOf frame-read
 
 wroteOf : WriteTold → Written
-wroteOf t = Wrote (t .written)
+wroteOf t = answerTo caseOf (Wrote (t .written)) NotWritten (t .number)
 
-written : (a : Written) (out : List ℕ) →
-    (answerTo (λ t. t .number) wroteOf NotWritten (writtenBy a out) ≡ a) × (writtenBy a out .out ≡ out)
-unfolding answerTo wroteOf
+written : (a : Written) (out : List ℕ) → (wroteOf (writtenBy a out) ≡ a) × (writtenBy a out .out ≡ out)
+unfolding wroteOf answerTo
 written (Wrote n) out = (refl, refl)
-written (NotWritten why) out = (refused-again (λ t. t .number) wroteOf NotWritten (writtenBy (NotWritten why) out) why refl, refl)
+written (NotWritten why) out = (again (Wrote 0) NotWritten why, refl)
 
 pub one-written : (a b : Written) (out other : List ℕ) → writtenBy a out ≡ writtenBy b other → (a ≡ b) × (out ≡ other)
-one-written = one-write writtenBy (answerTo (λ t. t .number) wroteOf NotWritten) written
+one-written = one-write writtenBy wroteOf written

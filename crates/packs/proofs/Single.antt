@@ -8,7 +8,7 @@ use mathlib.Core.List.{List}
 use Prim.Native.Nat.{ℕ}
 use lib.Dec.{eqb}
 use Rattle.forms.specs.Form.{WriteTold}
-use Rattle.forms.proofs.Single.{one-answer, one-write}
+use Rattle.forms.proofs.Single.{one-answer, one-write, answerTo, refused-again}
 use Rattle.packs.specs.Answers.{packBy, sheetBy}
 use Rattle.packs.specs.Number.{numberOf, verdictOf, notLicensed, notInForce, licenceOf}
 use Rattle.packs.specs.Question.{PackTold, askedBy}
@@ -50,34 +50,29 @@ back Room = refl
 back Image = refl
 back Passive = refl
 
--- what is taken where the number is 0, and the case that the number stands for where it is not
-answerTo : {A : Type 0} → A → (Refusal → A) → ℕ → A
-answerTo taken refused n = cond (eqb n 0) taken (refused (caseOf n))
-
--- a refusal is had again
-refused-again : {A : Type 0} (taken : A) (refused : Refusal → A) (why : Refusal) → answerTo taken refused (numberOf why) ≡ refused why
-unfolding answerTo
-refused-again taken refused why = rw (refusal why) (ap refused (back why))
+-- a refusal is had again from its number
+again : {A : Type 0} (taken : A) (refused : Refusal → A) (why : Refusal) → answerTo caseOf taken refused (numberOf why) ≡ refused why
+again taken refused why = refused-again caseOf taken refused (numberOf why) why (refusal why) (back why)
 
 -- ---- the judge of entries
 
-judged : (a : Verdict) → answerTo Sound Broken (verdictOf a) ≡ a
+judged : (a : Verdict) → answerTo caseOf Sound Broken (verdictOf a) ≡ a
 unfolding answerTo
 judged Sound = refl
-judged (Broken why) = refused-again Sound Broken why
+judged (Broken why) = again Sound Broken why
 
 pub one-verdict : (a b : Verdict) → verdictOf a ≡ verdictOf b → a ≡ b
-one-verdict = one-answer verdictOf (answerTo Sound Broken) judged
+one-verdict = one-answer verdictOf (answerTo caseOf Sound Broken) judged
 
 -- ---- the reader
 
 readOf : SheetTold → SheetRead
-readOf t = answerTo (Taken (t .count)) Refused (t .number)
+readOf t = answerTo caseOf (Taken (t .count)) Refused (t .number)
 
 read-is : (a : SheetRead) → readOf (toldBy a) ≡ a
 unfolding readOf answerTo
 read-is (Taken count) = refl
-read-is (Refused why) = refused-again (Taken 0) Refused why
+read-is (Refused why) = again (Taken 0) Refused why
 
 pub one-sheet : (a b : SheetRead) → toldBy a ≡ toldBy b → a ≡ b
 one-sheet = one-answer toldBy readOf read-is
@@ -97,12 +92,12 @@ pub one-licence : (a b : Licence) → licenceOf a ≡ licenceOf b → a ≡ b
 one-licence = one-answer licenceOf licenceNamed licence-is
 
 askedOf : PackTold → Asked
-askedOf t = answerTo (Told (licenceNamed (t .licence))) Unasked (t .number)
+askedOf t = answerTo caseOf (Told (licenceNamed (t .licence))) Unasked (t .number)
 
 asked-is : (a : Asked) → askedOf (askedBy a) ≡ a
 unfolding askedOf answerTo
 asked-is (Told how) = ap Told (licence-is how)
-asked-is (Unasked why) = refused-again (Told (licenceNamed 0)) Unasked why
+asked-is (Unasked why) = again (Told (licenceNamed 0)) Unasked why
 
 pub one-asked : (a b : Asked) → askedBy a ≡ askedBy b → a ≡ b
 one-asked = one-answer askedBy askedOf asked-is
@@ -117,12 +112,12 @@ one-pack = one-answer packBy packOf (λ a. refl)
 -- ---- the writer
 
 writtenOf : WriteTold → Written
-writtenOf t = answerTo (Wrote (t .written)) NotWritten (t .number)
+writtenOf t = answerTo caseOf (Wrote (t .written)) NotWritten (t .number)
 
 written-is : (a : Written) (out : List ℕ) → (writtenOf (writtenBy a out) ≡ a) × (writtenBy a out .out ≡ out)
 unfolding writtenOf answerTo
 written-is (Wrote size) out = (refl, refl)
-written-is (NotWritten why) out = (refused-again (Wrote 0) NotWritten why, refl)
+written-is (NotWritten why) out = (again (Wrote 0) NotWritten why, refl)
 
 pub one-written : (a b : Written) (out other : List ℕ) → writtenBy a out ≡ writtenBy b other → (a ≡ b) × (out ≡ other)
 one-written = one-write writtenBy writtenOf written-is

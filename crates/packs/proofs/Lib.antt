@@ -4,7 +4,6 @@ pub mod Ended
 pub mod Entries
 mod Examples
 pub mod Meaning
-pub mod Nearest
 pub mod Order
 pub mod Puts
 pub mod RoundTrip

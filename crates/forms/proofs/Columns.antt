@@ -2,7 +2,7 @@
 -- Assumes nothing.
 use mathlib.Core.Path.{_≡_, refl, sym, ap, _∙_}
 use mathlib.Core.List.{List, [], _∷_}
-use mathlib.Core.Bool.{Bool, true, false, cond, _&&_, false≢true}
+use mathlib.Core.Bool.{Bool, true, false, cond, _&&_, and-eq-true-iff}
 use Prim.Native.Nat.{ℕ, zero, suc, _+_, _-_, _≤_, _<_}
 use native.Mathlib.Omega.{arith}
 use lib.Dec.{ltb, eqb}
@@ -78,16 +78,12 @@ module _ (n s : ℕ) (b : List ℕ) (i : ℕ) (p : 1 < n) where
   pub ascends-no : field 4 b (i + s) ≤ field 4 b i → ascends (words n s b i) ≡ false
   ascends-no down = ascends-look ∙ rw (le-ltb (field 4 b i) (field 4 b (i + s)) down)
 
-both-hold : (s t : Bool) → (s && t) ≡ true → (s ≡ true) × (t ≡ true)
-both-hold true t e = (refl, e)
-both-hold false t e = absurd (false≢true e)
-
 -- what is below the first number of such a list stands nowhere in it
 above-none : (x y : ℕ) (ys : List ℕ) → x < y → ascends (y ∷ ys) ≡ true → count x (y ∷ ys) ≡ 0
 unfolding count ascends
 above-none x y [] up e = rw (ne-eqb y x (λ d. omega arith))
 above-none x y (z ∷ zs) up e =
-    let h = both-hold (ltb y z) (ascends (z ∷ zs)) e in
+    let h = and-eq-true-iff (ltb y z) (ascends (z ∷ zs)) .0 e in
     rw (ne-eqb y x (λ d. omega arith)) (omega (arith, above-none x z zs (omega (arith, ltb-true y z (h .0))) (h .1)))
 
 -- so no number stands twice
@@ -96,5 +92,5 @@ unfolding ascends twins count
 ascends-once [] e = refl
 ascends-once (x ∷ []) e = refl
 ascends-once (x ∷ y ∷ ys) e =
-    let h = both-hold (ltb x y) (ascends (y ∷ ys)) e in
+    let h = and-eq-true-iff (ltb x y) (ascends (y ∷ ys)) .0 e in
     omega (arith, above-none x y ys (ltb-true x y (h .0)) (h .1), ascends-once (y ∷ ys) (h .1))

@@ -4,15 +4,15 @@
 use mathlib.Core.Path.{_≡_, refl, sym, ap, _∙_}
 use mathlib.Core.List.{List}
 use mathlib.Core.Bool.{Bool, true, false, cond, not, _||_, true≢false}
-use Prim.Native.Nat.{ℕ}
+use Prim.Native.Nat.{ℕ, zero, suc}
 use native.Mathlib.Omega.{arith}
 use lib.ListN.{length}
 use lib.Dec.{ltb, eqb}
-use borrow.Author.Tests.{eqb-true, not-false}
+use borrow.Author.Tests.{eqb-true, eqb-false, not-false}
 use Rattle.fields.specs.Field.{field}
 use Rattle.forms.specs.Form.{serialsPlace, formSize, linesOf, faultsOf, ownOf, serialsOf, misplaced, formNumber}
 use Rattle.forms.specs.Form.{FormTold, formTold, refusedForm}
-use Rattle.forms.specs.Number.{numberOf}
+use Rattle.forms.specs.Number.{numberOf, orElse}
 use Rattle.forms.specs.Roster.{rosterNumber}
 use Rattle.forms.specs.declared.answer.Refusal.{Refusal}
 use Rattle.forms.specs.declared.answer.Refusal.the-variants.{Layout, Limits, Zero, Twice, Stranger, Room, Shape, Late}
@@ -29,10 +29,24 @@ refusal Room = refl
 refusal Shape = refl
 refusal Late = refl
 
--- the last of several tests that all fail
-or-last : (s t : Bool) → (s || t) ≡ false → t ≡ false
-or-last true t e = absurd (true≢false e)
-or-last false t e = e
+-- ---- checks one after the other
+
+-- two tests of which neither applies
+pub neither : (s t : Bool) → (s || t) ≡ false → (s ≡ false) × (t ≡ false)
+neither true t e = absurd (true≢false e)
+neither false t e = (refl, e)
+
+-- two numbers of which neither refuses
+pub none-given : (number next : ℕ) → orElse number next ≡ 0 → (number ≡ 0) × (next ≡ 0)
+none-given zero next e = (refl, e)
+none-given (suc n) next e = absurd (omega arith)
+
+-- a number that is not 0 is the first of two
+pub first-given : (number next : ℕ) → eqb number 0 ≡ false → orElse number next ≡ number
+first-given zero next e = absurd (eqb-false 0 0 e refl)
+first-given (suc n) next e = refl
+
+-- ---- a form
 
 module _ (b : List ℕ) where
   -- ---- from the number to what is told
@@ -72,7 +86,7 @@ module _ (b : List ℕ) where
   pub placed-length : misplaced b ≡ false → length b ≡ formSize (linesOf b)
   placed-length e =
       eqb-true (length b) (formSize (linesOf b))
-      (not-false _ (or-last (ltb (length b) serialsPlace || not (eqb (field 2 b 2) serialsPlace)) _ e))
+      (not-false _ (neither (ltb (length b) serialsPlace || not (eqb (field 2 b 2) serialsPlace)) _ e .1))
 
   -- so a form that is taken is, too
   pub form-length : formNumber b ≡ 0 → length b ≡ formSize (linesOf b)

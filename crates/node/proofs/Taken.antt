@@ -23,7 +23,7 @@ use Rattle.forms.specs.declared.form.FormRead.{FormRead}
 use Rattle.forms.specs.declared.form.FormRead.the-variants.{Taken as TakenForm}
 use Rattle.forms.proofs.Meaning.{frame-told, frame-says}
 use Rattle.forms.proofs.Rosters.{Limits}
-use Rattle.forms.proofs.Told.{refusal, told-taken, form-taken, form-roster}
+use Rattle.forms.proofs.Told.{refusal, told-taken, form-taken, form-roster, none-given, first-given}
 use Rattle.rules.specs.Describe.{room}
 use Rattle.node.specs.Calls.{bootNumber, deliverNumber}
 use Rattle.node.specs.Image.{Layout, imageSize, rosterIn, soundImage}
@@ -36,21 +36,11 @@ passed : (t : Bool) (number next : ℕ) → 0 < number → cond t number next �
 passed true number next p e = absurd (omega arith)
 passed false number next p e = (refl, e)
 
--- two checks one after the other
-pub past-form : (number next : ℕ) → orElse number next ≡ 0 → (number ≡ 0) × (next ≡ 0)
-past-form zero next e = (refl, e)
-past-form (suc n) next e = absurd (omega arith)
-
 past-image : (t : Bool) (next : ℕ) → cond t next 8 ≡ 0 → (t ≡ true) × (next ≡ 0)
 past-image true next e = (refl, e)
 past-image false next e = absurd (omega arith)
 
 -- ---- a form
-
--- a number that is not 0 is the first of two
-else-first : (number next : ℕ) → eqb number 0 ≡ false → orElse number next ≡ number
-else-first zero next e = absurd (eqb-false 0 0 e refl)
-else-first (suc n) next e = refl
 
 -- what refuses the form refuses boot
 pub form-refuses :
@@ -58,7 +48,7 @@ pub form-refuses :
     → formNumber form ≡ numberOf why
     → bootNumber L form imageLength outLength ≡ numberOf why
 unfolding bootNumber
-form-refuses L form imageLength outLength why e = rw e (else-first (numberOf why) _ (refusal why))
+form-refuses L form imageLength outLength why e = rw e (first-given (numberOf why) _ (refusal why))
 
 module _ (b : List ℕ) where
   -- the fields that the reader told are the form's own
@@ -89,7 +79,7 @@ pub boot-taken :
     → Started L form imageLength outLength
 unfolding bootNumber
 boot-taken L form imageLength outLength e =
-    let roster = past-form (formNumber form) _ e in
+    let roster = none-given (formNumber form) _ e in
     let image = passed (ltb imageLength (imageSize L (linesOf form))) 6 _ (lit< tt) (roster .1) in
     let out = passed (ltb outLength room) 7 _ (lit< tt) (image .1) in
     record { roster = roster .0; image = ltb-false _ _ (image .0); out = ltb-false _ _ (out .0) }

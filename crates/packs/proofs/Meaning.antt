@@ -18,9 +18,9 @@ use Rattle.node.specs.Calls.{readNumber, reading}
 use Rattle.node.specs.Image.{Layout}
 use Rattle.node.proofs.Numbers.{read-then}
 use Rattle.node.proofs.Outcomes.{read-told}
-use Rattle.node.proofs.Taken.{past-form}
+use Rattle.forms.proofs.Told.{none-given}
 use Rattle.packs.specs.Number.{notLicensed, notInForce, inForce}
-use Rattle.packs.specs.Question.{covers, runs, licence, PackTold, refusedPack, packNumber, packTold}
+use Rattle.packs.specs.Question.{covers, entryInForce, licence, PackTold, refusedPack, packNumber, packTold}
 use Rattle.packs.specs.Sheet.{entriesPlace, entrySize, mostEntries, sheetSize, countOf, offsetOf, entriesOf}
 use Rattle.packs.specs.Sheet.{packs, howMany, backward, twice, entriesNumber, misplaced, sheetNumber}
 use Rattle.packs.specs.Sheet.{SheetTold, refusedSheet, sheetTold}
@@ -162,7 +162,7 @@ module _ (L : Layout) (last : ℕ) (sheet : List ℕ) (pack : ℕ) (image : List
       × (packTold L last sheet pack image .licence ≡ licence pack (reading L last image .clock) (entriesOf sheet))
   unfolding packNumber
   packs-taken e =
-      let passed = past-form (readNumber L last image) (sheetNumber sheet) (sym pack-number ∙ e) in
+      let passed = none-given (readNumber L last image) (sheetNumber sheet) (sym pack-number ∙ e) in
       let clock = read-told L last image ∙ passed .0 in
       (clock, passed .1, ap (λ (t : PackTold). t .licence) (pack-told L last sheet pack image clock (passed .1)))
 
@@ -179,35 +179,35 @@ on-sheet (List·Memᴰ·tail m) = List·Memᴰ·tail (on-sheet m)
 
 module _ (pack tick : ℕ) (es : List Entry) where
   -- the two tests of `licence`
-  abbrev runsNow : Bool
-  runsNow = ltb 0 (howMany (runs pack tick) es)
+  abbrev forceNow : Bool
+  forceNow = ltb 0 (howMany (entryInForce pack tick) es)
 
   abbrev listed : Bool
   listed = ltb 0 (count pack (packs es))
 
-  runs-says : Decides runsNow (InForce pack tick es)
-  runs-says =
-      Iff·trans (many-says (runs pack tick) es) (
+  force-says : Decides forceNow (InForce pack tick es)
+  force-says =
+      Iff·trans (many-says (entryInForce pack tick) es) (
         λ x.
             let h = this (x .0) .0 (x .2) in
             record { entry = x .0; listed = x .1; number = h .0; covers = h .1 },
         λ f. (f .entry, f .listed, this (f .entry) .1 (f .number, f .covers)),
       )
     where
-      this : (e : Entry) → Decides (runs pack tick e) ((e .pack ≡ pack) × Covers tick e)
+      this : (e : Entry) → Decides (entryInForce pack tick e) ((e .pack ≡ pack) × Covers tick e)
       this e = both _ _ (equal (e .pack) pack) (covers-says tick e)
 
   listed-says : Decides listed (OnSheet pack es)
   listed-says = Iff·trans (less 0 (count pack (packs es))) (member-says pack (packs es))
 
-  -- a pack that runs is listed
-  both-pass : runsNow ≡ true → listed ≡ true
-  both-pass e = let f = runs-says .0 e in listed-says .1 (Memᴰ·cast (sym (f .number)) (on-sheet (f .listed)))
+  -- a pack that is in force is listed
+  both-pass : forceNow ≡ true → listed ≡ true
+  both-pass e = let f = force-says .0 e in listed-says .1 (Memᴰ·cast (sym (f .number)) (on-sheet (f .listed)))
 
   -- a pack is in force exactly where an entry has its number and covers the tick
   pub in-force-says : (licence pack tick es ≡ inForce) ↔ InForce pack tick es
   unfolding licence
-  in-force-says = Iff·trans (go runsNow listed) runs-says
+  in-force-says = Iff·trans (go forceNow listed) force-says
     where
       go : (s t : Bool) → (cond s inForce (cond t notInForce notLicensed) ≡ inForce) ↔ (s ≡ true)
       go true t = (λ e. refl, λ e. refl)
@@ -217,7 +217,7 @@ module _ (pack tick : ℕ) (es : List Entry) where
   -- it is not licensed exactly where no entry has its number
   pub not-licensed-says : (licence pack tick es ≡ notLicensed) ↔ (OnSheet pack es → ⊥)
   unfolding licence
-  not-licensed-says = Iff·trans (go runsNow listed both-pass) (opposite listed listed-says)
+  not-licensed-says = Iff·trans (go forceNow listed both-pass) (opposite listed listed-says)
     where
       go : (s t : Bool) → (s ≡ true → t ≡ true) → (cond s inForce (cond t notInForce notLicensed) ≡ notLicensed) ↔ (not t ≡ true)
       go true true h = (λ e. absurd (omega arith), λ e. absurd (false≢true e))
@@ -228,7 +228,7 @@ module _ (pack tick : ℕ) (es : List Entry) where
   -- and between the two exactly where it is on the sheet and not in force
   pub not-in-force-says : (licence pack tick es ≡ notInForce) ↔ (OnSheet pack es × (InForce pack tick es → ⊥))
   unfolding licence
-  not-in-force-says = Iff·trans (go runsNow listed) (both listed (not runsNow) listed-says (opposite runsNow runs-says))
+  not-in-force-says = Iff·trans (go forceNow listed) (both listed (not forceNow) listed-says (opposite forceNow force-says))
     where
       go : (s t : Bool) → (cond s inForce (cond t notInForce notLicensed) ≡ notInForce) ↔ ((t && not s) ≡ true)
       go true true = (λ e. absurd (omega arith), λ e. absurd (false≢true e))

@@ -16,15 +16,15 @@ use Rattle.forms.proofs.Order.{count-order, twins-order}
 use Rattle.forms.specs.Number.{orElse}
 use Rattle.node.specs.Calls.{readNumber, reading}
 use Rattle.node.specs.Image.{Layout}
-use Rattle.node.proofs.Taken.{past-form}
-use Rattle.packs.specs.Question.{runs, licence, PackTold, refusedPack, packNumber, packTold}
+use Rattle.forms.proofs.Told.{none-given}
+use Rattle.packs.specs.Question.{entryInForce, licence, PackTold, refusedPack, packNumber, packTold}
 use Rattle.packs.specs.Sheet.{entriesPlace, sheetSize, entriesIn, countOf, entriesOf, howMany, backward}
 use Rattle.packs.specs.Sheet.{entriesNumber, misplaced, sheetNumber, sheetTold, entriesFrom, Reordered}
 use Rattle.packs.specs.Writer.{writeNumber}
 use Rattle.packs.specs.declared.sheet.Entry.{Entry}
 use Rattle.packs.proofs.Ascending.{packs-order}
 use Rattle.packs.proofs.Meaning.{misplaced-says}
-use Rattle.packs.proofs.Told.{taken-parts}
+use Rattle.packs.proofs.Told.{taken-parts, placed-parts}
 
 -- ---- entries, and the same ones in another order
 
@@ -46,21 +46,13 @@ module _ {es fs : List Entry} (p : List·Permᴰ es fs) where
   -- and each pack stands as it did
   pub licence-order : (pack tick : ℕ) → licence pack tick es ≡ licence pack tick fs
   unfolding licence
-  licence-order pack tick = cc (many-order (runs pack tick) p, count-order pack (packs-order p))
+  licence-order pack tick = cc (many-order (entryInForce pack tick) p, count-order pack (packs-order p))
 
 -- ---- a sheet
 
--- a sheet of right layout is as long as its count says
-placed-length : (b : List ℕ) → misplaced b ≡ false → length b ≡ sheetSize (countOf b)
-placed-length b e =
-    elim (ℕ-discrete (length b) (sheetSize (countOf b))) [
-      | yes same ↦ same
-      | no other ↦ absurd (false≢true (sym e ∙ misplaced-says b .1 (inr other)))
-    ]
-
--- and holds as many entries
+-- a sheet of right layout holds as many entries as its count says
 lines-entries : (b : List ℕ) → misplaced b ≡ false → entriesFrom entriesPlace b ≡ entriesOf b
-lines-entries b e = ap (λ (n : ℕ). entriesIn n b entriesPlace) (omega (arith, placed-length b e))
+lines-entries b e = ap (λ (n : ℕ). entriesIn n b entriesPlace) (omega (arith, placed-parts b e .2))
 
 -- two sheets that differ in the order of their entries only
 module _ {b c : List ℕ} (r : Reordered entriesPlace b c) where
@@ -111,7 +103,7 @@ module _ {b c : List ℕ} (r : Reordered entriesPlace b c) where
 
       go : (t : Bool) → eqb number 0 ≡ t → cond t (told b) (refusedPack number) ≡ cond t (told c) (refusedPack number)
       go true e =
-          let taken = past-form (readNumber L last image) (sheetNumber b) (eqb-true number 0 e) .1 in
+          let taken = none-given (readNumber L last image) (sheetNumber b) (eqb-true number 0 e) .1 in
           ap {B = PackTold} (λ (n : ℕ). record { number = 0; licence = n })
           (licence-order (entries-order taken) pack (reading L last image .clock))
       go false e = refl

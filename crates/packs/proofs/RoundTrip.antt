@@ -33,9 +33,9 @@ use Rattle.packs.proofs.Meaning.{sheet-number-says, sheet-writer-says}
 use Rattle.packs.proofs.Order.{entries-number-order, licence-order, write-number-order}
 use Rattle.packs.proofs.Puts.{narrow-entries, narrow-order, length-putEntries, field-putEntries-before}
 use Rattle.packs.proofs.Puts.{drop-putEntries, take-putEntries, entries-putEntries, putEntries-entries}
-use Rattle.packs.proofs.Told.{sound-packs, taken-parts, sheet-lines}
+use Rattle.packs.proofs.Told.{sound-packs, taken-parts, placed-parts, sheet-lines}
 
--- entries handed in that no number from 14 to 16 refuses are in order
+-- where 14 to 16 do not refuse the bytes, 15 and 16 do not refuse their entries
 given-sound : (bytes : List ℕ) → writeNumber bytes ≡ 0 → entriesNumber (entriesGiven bytes) ≡ 0
 unfolding writeNumber
 given-sound bytes = go (unfit bytes)
@@ -221,15 +221,11 @@ module _ (bytes others out : List ℕ) (r : Reordered 0 bytes others) where
 
 -- a sheet that is taken
 module _ (b : List ℕ) (e : sheetNumber b ≡ 0) where
-  -- its layout is right
-  laid : Misplaced b → ⊥
-  laid = sheet-number-says b .exactly 0 .0 e .0
-
   offset : offsetOf b ≡ entriesPlace
-  offset = settled _ _ (λ n. laid (inl (inl (inr n))))
+  offset = placed-parts b (taken-parts b e .0) .0
 
   size : length b ≡ sheetSize (countOf b)
-  size = settled _ _ (λ n. laid (inr n))
+  size = placed-parts b (taken-parts b e .0) .2
 
   -- its entries, as the writer is given them
   entries-again : entriesGiven (drop entriesPlace b) ≡ entriesOf b

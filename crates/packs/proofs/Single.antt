@@ -1,6 +1,5 @@
 -- Each contract of a reader, a writer or a call of a sheet allows one answer: what an answer tells determines it, and of a writer every
--- byte of the output. The joint behind the question is left out: its `Asked` can hold any number for an image that is refused, so two
--- of its values may tell the same. What C is given is one.
+-- byte of the output. A refusal is a case of `Refusal`, so no two cases tell the same number.
 -- Assumes nothing.
 use mathlib.Core.Path.{_≡_, refl, ap}
 use mathlib.Core.Bool.{cond}

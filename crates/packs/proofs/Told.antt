@@ -4,7 +4,7 @@
 use mathlib.Core.Path.{_≡_, refl, sym, ap, _∙_}
 use mathlib.Core.List.{List}
 use mathlib.Core.Bool.{Bool, true, false, cond, not, _||_, true≢false}
-use Prim.Native.Nat.{ℕ}
+use Prim.Native.Nat.{ℕ, _≤_}
 use native.Mathlib.Omega.{arith}
 use lib.ListN.{length, getD}
 use lib.Dec.{ltb, eqb}
@@ -16,12 +16,14 @@ use Rattle.node.specs.Image.{modePlace, soundImage}
 use Rattle.node.specs.Image.{Layout as ImageLayout}
 use Rattle.packs.specs.Number.{numberOf}
 use Rattle.packs.specs.Question.{licence, packNumber, packTold, refusedPack}
-use Rattle.packs.specs.Sheet.{entriesPlace, mostEntries, sheetSize, countOf, offsetOf, entriesOf, misplaced, Lines}
+use Rattle.packs.specs.Sheet.{entriesPlace, mostEntries, sheetSize, countOf, offsetOf, entriesOf, misplaced}
+use Rattle.packs.specs.Steps.{Lines}
 use Rattle.packs.specs.Sheet.{packs, howMany, backward, entriesNumber, sheetNumber, SheetTold, sheetTold, refusedSheet}
 use Rattle.packs.specs.declared.sheet.Entry.{Entry}
 use Rattle.packs.specs.declared.answer.Refusal.{Refusal}
 use Rattle.packs.specs.declared.answer.Refusal.the-variants.{Layout, Pack, Ticks, Room, Image, Passive}
 use Rattle.forms.proofs.Meaning.{told}
+use Rattle.forms.proofs.Told.{neither, first-given}
 use Rattle.node.proofs.Outcomes.{read-told}
 
 -- no refusal has number 0
@@ -33,21 +35,7 @@ refusal Room = refl
 refusal Image = refl
 refusal Passive = refl
 
--- so what is checked behind it is not given
-first-given : (why : Refusal) (next : ℕ) → orElse (numberOf why) next ≡ numberOf why
-first-given Layout next = refl
-first-given Pack next = refl
-first-given Ticks next = refl
-first-given Room next = refl
-first-given Image next = refl
-first-given Passive next = refl
-
--- two tests of which neither passes
-neither : (s t : Bool) → (s || t) ≡ false → (s ≡ false) × (t ≡ false)
-neither true t e = absurd (true≢false e)
-neither false t e = (refl, e)
-
--- entries that are in order have no pack number 0, and none twice
+-- entries that no number refuses have no pack number 0, and none twice
 pub sound-packs : (es : List Entry) → entriesNumber es ≡ 0 → (count 0 (packs es) ≡ 0) × (twins (packs es) ≡ 0)
 unfolding entriesNumber
 sound-packs es z = go (ltb 0 (count 0 (packs es))) (ltb 0 (twins (packs es))) (ltb 0 (howMany backward es)) refl refl z
@@ -62,9 +50,9 @@ sound-packs es z = go (ltb 0 (count 0 (packs es))) (ltb 0 (twins (packs es))) (l
 module _ (b : List ℕ) where
   -- ---- from the number to what is told
 
-  pub sheet-refused : (why : Refusal) → sheetNumber b ≡ numberOf why → sheetTold b ≡ refusedSheet (numberOf why)
+  pub refused-sheet : (why : Refusal) → sheetNumber b ≡ numberOf why → sheetTold b ≡ refusedSheet (numberOf why)
   unfolding sheetTold
-  sheet-refused why e = rw (e, refusal why)
+  refused-sheet why e = rw (e, refusal why)
 
   pub sheet-taken : sheetNumber b ≡ 0 → sheetTold b ≡ record { number = 0; count = countOf b }
   unfolding sheetTold
@@ -86,7 +74,7 @@ module _ (b : List ℕ) where
 
   -- ---- the parts of a sheet that is taken
 
-  -- its layout is right, and its entries are in order
+  -- its layout is right, and no number refuses its entries
   pub taken-parts : sheetNumber b ≡ 0 → (misplaced b ≡ false) × (entriesNumber (entriesOf b) ≡ 0)
   unfolding sheetNumber
   taken-parts e = go (misplaced b) e
@@ -95,14 +83,23 @@ module _ (b : List ℕ) where
       go true z = absurd (omega arith)
       go false z = (refl, z)
 
+  -- the parts of a right layout
+  pub placed-parts : misplaced b ≡ false → (offsetOf b ≡ entriesPlace) × (countOf b ≤ mostEntries) × (length b ≡ sheetSize (countOf b))
+  placed-parts e =
+      let short = ltb (length b) entriesPlace in
+      let front = short || not (eqb (offsetOf b) entriesPlace) in
+      let size = neither (front || ltb mostEntries (countOf b)) _ e in
+      let few = neither front (ltb mostEntries (countOf b)) (size .0) in
+      let offset = neither short _ (few .0) in
+      (
+        eqb-true (offsetOf b) entriesPlace (not-false _ (offset .1)),
+        ltb-false mostEntries (countOf b) (few .1),
+        eqb-true (length b) (sheetSize (countOf b)) (not-false _ (size .1)),
+      )
+
   -- as many entries as its count says, inside its bytes
   pub sheet-lines : sheetNumber b ≡ 0 → Lines b entriesPlace (countOf b)
-  sheet-lines z =
-      let front = ltb (length b) entriesPlace || not (eqb (offsetOf b) entriesPlace) in
-      let size = neither (front || ltb mostEntries (countOf b)) _ (taken-parts z .0) in
-      let few = neither front (ltb mostEntries (countOf b)) (size .0) in
-      let long = eqb-true (length b) (sheetSize (countOf b)) (not-false _ (size .1)) in
-      record { few = ltb-false mostEntries (countOf b) (few .1); inside = omega (arith, long) }
+  sheet-lines z = let p = placed-parts (taken-parts z .0) in record { few = p .1; inside = omega (arith, p .2) }
 
 -- ---- the question
 
@@ -111,7 +108,7 @@ module _ (L : ImageLayout) (last : ℕ) (sheet : List ℕ) (pack : ℕ) (image :
   pub pack-unread : (why : Refusal) → reading L last image .number ≡ numberOf why →
       packTold L last sheet pack image ≡ refusedPack (numberOf why)
   unfolding packTold packNumber
-  pack-unread why e = rw (sym (read-told L last image) ∙ e, first-given why (sheetNumber sheet), refusal why)
+  pack-unread why e = rw (sym (read-told L last image) ∙ e, first-given (numberOf why) (sheetNumber sheet) (refusal why), refusal why)
 
   -- read gives 8, 12 or 0
   pub read-passive : (reading L last image .number ≡ 8 → ⊥) → (reading L last image .number ≡ 0 → ⊥) → reading L last image .number ≡ 12
@@ -124,9 +121,9 @@ module _ (L : ImageLayout) (last : ℕ) (sheet : List ℕ) (pack : ℕ) (image :
       go false t p q = absurd (sound (rw (read-told L last image, p)))
 
   module _ (clock : reading L last image .number ≡ 0) where
-    pub pack-refused : (why : Refusal) → sheetNumber sheet ≡ numberOf why → packTold L last sheet pack image ≡ refusedPack (numberOf why)
+    pub refused-pack : (why : Refusal) → sheetNumber sheet ≡ numberOf why → packTold L last sheet pack image ≡ refusedPack (numberOf why)
     unfolding packTold packNumber
-    pack-refused why e = rw (sym (read-told L last image) ∙ clock, e, refusal why)
+    refused-pack why e = rw (sym (read-told L last image) ∙ clock, e, refusal why)
 
     pub pack-told : sheetNumber sheet ≡ 0 →
         packTold L last sheet pack image ≡ record { number = 0; licence = licence pack (reading L last image .clock) (entriesOf sheet) }

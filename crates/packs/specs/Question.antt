@@ -20,13 +20,13 @@ abbrev pub covers : ℕ → Entry → Bool
 covers tick e = leb (e .first) tick && ltb tick (e .end)
 
 -- an entry with this number that is in force at this tick
-abbrev pub runs : ℕ → ℕ → Entry → Bool
-runs pack tick e = eqb (e .pack) pack && covers tick e
+abbrev pub entryInForce : ℕ → ℕ → Entry → Bool
+entryInForce pack tick e = eqb (e .pack) pack && covers tick e
 
 -- how a pack stands at a tick
 unfoldable pub licence : ℕ → ℕ → List Entry → ℕ
 licence pack tick es =
-    cond (ltb 0 (howMany (runs pack tick) es)) inForce (cond (ltb 0 (count pack (packs es))) notInForce notLicensed)
+    cond (ltb 0 (howMany (entryInForce pack tick) es)) inForce (cond (ltb 0 (count pack (packs es))) notInForce notLicensed)
 
 -- ---- the call
 
@@ -48,7 +48,7 @@ packTold L last sheet pack image =
     (record { number = 0; licence = licence pack (reading L last image .clock) (entriesOf sheet) })
     (refusedPack (packNumber L last sheet image))
 
--- the answer that entries in order say, with no sheet between: 8 and 12 of the image, else how the pack stands
+-- the answer that entries say, with no sheet between: 8 and 12 of the image, else how the pack stands
 unfoldable pub entriesSay : Layout → ℕ → List Entry → ℕ → List ℕ → PackTold
 entriesSay L last es pack image =
     cond (eqb (readNumber L last image) 0) (record { number = 0; licence = licence pack (reading L last image .clock) es })

@@ -2,7 +2,7 @@
 -- pack number, first tick, and end, the first tick no longer licensed. What its reader gives, for every input. 15 and 16 look at the
 -- entries through counts alone, 15 at all of them before 16 at any, so the order of entries decides nothing.
 use mathlib.Core.Path.{_≡_}
-use Prim.Native.Nat.{ℕ, zero, suc, _+_, _-_, _*_, _/_, _≤_}
+use Prim.Native.Nat.{ℕ, zero, suc, _+_, _-_, _*_, _/_}
 use mathlib.Core.List.{List, [], _∷_, List·Permᴰ}
 use mathlib.Core.Bool.{Bool, cond, not, _||_}
 use lib.ListN.{length, getD, take}
@@ -119,13 +119,9 @@ entryOn b line = cond (eqb (sheetNumber b) 0) (getD (entriesOf b) line noEntry) 
 abbrev pub entriesFrom : ℕ → List ℕ → List Entry
 entriesFrom place b = entriesIn ((length b - place) / entrySize) b place
 
--- two byte strings that differ in the order of their entries from a place on only, be their length right or wrong
+-- two byte strings of one length that differ in the order of their whole entries from a place on only, be the length right or wrong; up
+-- to 11 bytes behind the last whole entry are no entry, and not compared: bytes that have some are refused by their length
 pub record Reordered (place : ℕ) (b c : List ℕ) : Type 0 where
   pub size : length b ≡ length c
   pub front : take place b ≡ take place c
   pub entries : List·Permᴰ (entriesFrom place b) (entriesFrom place c)
-
--- what the functions on a run of entries ask of their caller: no more than a sheet may have, inside the bytes
-pub record Lines (b : List ℕ) (i n : ℕ) : Type 0 where
-  pub few : n ≤ mostEntries
-  pub inside : i + n * entrySize ≤ length b

@@ -34,7 +34,7 @@ impl Refusal {
     }
 }
 
-// Whether entries are in order.
+// Whether 15 or 16 refuses some entries.
 pub enum Verdict {
     Sound,
     Broken(Refusal),

@@ -1,8 +1,8 @@
 // The two calls of a sheet, with the answers that C is given.
 use crate::question::Asked;
 use crate::question::ask;
+use crate::writer;
 use crate::writer::Written;
-use crate::writer::write_sheet;
 ghost use mathlib.Core.Path.{_≡_};
 ghost use Rattle.rules.specs.Describe.{lastTick};
 ghost use Rattle.node.specs.Image.{layout};
@@ -41,10 +41,10 @@ pub fn pack(sheet: &[u8], pack: u32, image: &[u8]) -> PackAnswer
 }
 
 // Writes a sheet of entries that come in any order.
-pub fn sheet(entries: &[u8], out: &mut [u8]) -> SheetAnswer
+pub fn write_sheet(entries: &[u8], out: &mut [u8]) -> SheetAnswer
     ensures { λ r. ⌜ sheetBy r (now (out .exit)) ≡ sheetWritten (now (entries .entry)) (now (out .entry)) ⌝ }
 {
-    match write_sheet(entries, out) {
+    match writer::write_sheet(entries, out) {
         Written::NotWritten(why) => SheetAnswer {
             number: why.number(),
             written: 0,

@@ -13,8 +13,9 @@ ghost use mathlib.Core.Path.{_≡_};
 ghost use Rattle.rules.specs.Describe.{lastTick};
 ghost use Rattle.node.specs.Image.{layout};
 ghost use Rattle.packs.specs.Number.{licenceOf};
-ghost use Rattle.packs.specs.Sheet.{entriesPlace, entriesIn, howMany, Lines};
-ghost use Rattle.packs.specs.Question.{runs as Question·runs, licence, askedBy, packTold};
+ghost use Rattle.packs.specs.Sheet.{entriesPlace, entriesIn, howMany};
+ghost use Rattle.packs.specs.Steps.{Lines};
+ghost use Rattle.packs.specs.Question.{entryInForce, licence, askedBy, packTold};
 
 pub enum Asked {
     Told(Licence),
@@ -23,8 +24,8 @@ pub enum Asked {
 }
 
 // Whether an entry has this pack number and is in force at this tick.
-fn runs(e: Entry, pack: u32, tick: u32) -> bool
-    ensures { λ r. ⌜ r ≡ Question·runs pack tick e ⌝ }
+fn is_in_force(e: Entry, pack: u32, tick: u32) -> bool
+    ensures { λ r. ⌜ r ≡ entryInForce pack tick e ⌝ }
 {
     if e.pack != pack {
         return false;
@@ -38,13 +39,13 @@ fn runs(e: Entry, pack: u32, tick: u32) -> bool
 // How many of the n entries of a sheet have this pack number and are in force at this tick.
 fn count_in_force(sheet: &[u8], n: usize, pack: u32, tick: u32) -> usize
     requires { ⌜ Lines (now sheet) entriesPlace n ⌝ }
-    ensures { λ r. ⌜ r ≡ howMany (Question·runs pack tick) (entriesIn n (now (sheet .entry)) entriesPlace) ⌝ }
+    ensures { λ r. ⌜ r ≡ howMany (entryInForce pack tick) (entriesIn n (now (sheet .entry)) entriesPlace) ⌝ }
 {
     let mut found: usize = 0;
     let mut at = ENTRIES;
     let mut left = n;
     while 0 < left {
-        if runs(entry_at(sheet, at), pack, tick) {
+        if is_in_force(entry_at(sheet, at), pack, tick) {
             found += 1;
         }
         at += ENTRY;

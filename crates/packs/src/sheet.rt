@@ -10,7 +10,8 @@ ghost use mathlib.Core.Path.{_≡_};
 ghost use Prim.Native.Nat.{_+_, _*_, _≤_};
 ghost use lib.ListN.{length};
 ghost use Rattle.packs.specs.Number.{verdictOf};
-ghost use Rattle.packs.specs.Sheet.{entrySize, entryAt, entriesIn, howMany, backward, twice, entriesNumber, Lines};
+ghost use Rattle.packs.specs.Sheet.{entrySize, entryAt, entriesIn, howMany, backward, twice, entriesNumber};
+ghost use Rattle.packs.specs.Steps.{Lines};
 ghost use Rattle.packs.specs.Sheet.{toldBy, sheetTold, entryOn};
 
 // Where the entries begin: behind the count and this offset. No sheet is shorter.

@@ -59,5 +59,5 @@ pub extern "C" fn pebrassola_pack(sheet: &[u8], pack: u32, image: &[u8]) -> Pack
 pub extern "C" fn pebrassola_write_sheet(entries: &[u8], out: &mut [u8]) -> SheetAnswer
     ensures { λ r. ⌜ sheetBy r (now (out .exit)) ≡ sheetWritten (now (entries .entry)) (now (out .entry)) ⌝ }
 {
-    packs::calls::sheet(entries, out)
+    packs::calls::write_sheet(entries, out)
 }

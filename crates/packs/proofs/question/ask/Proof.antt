@@ -8,7 +8,7 @@ use Rattle.rules.specs.Describe.{lastTick}
 use Rattle.node.specs.Calls.{Reading, reading}
 use Rattle.node.specs.Image.{layout}
 use Rattle.packs.specs.Sheet.{countOf, sheetNumber, toldBy}
-use Rattle.packs.proofs.Told.{told-refused, told-taken, sheet-lines, pack-unread, read-passive, pack-refused, pack-told}
+use Rattle.packs.proofs.Told.{told-refused, told-taken, sheet-lines, pack-unread, read-passive, refused-pack, pack-told}
 use Rattle.packs.specs.declared.answer.Refusal.the-variants.{Image, Passive}
 use Rattle.packs.proofs.question.ask.Statement.{statement}
 use Rattle.packs.proofs.question.ask.Tie as tie
@@ -68,7 +68,7 @@ returns-3 c =
     let why = c .before .why .given .0 .0 in
     let clock = number (c .before .before .before .before .before .before .before .before) ∙ c .before .before .before .before .if2 .left in
     let told = ap toldBy (sym (c .before .why .given .1)) ∙ c .before .before .before .read-sheet .ensures in
-    sym (pack-refused layout lastTick (now (a .sheet)) (a .pack) (now (a .image)) clock why (told-refused (now (a .sheet)) why told))
+    sym (refused-pack layout lastTick (now (a .sheet)) (a .pack) (now (a .image)) clock why (told-refused (now (a .sheet)) why told))
 
 returns-4 : tie.Need-returns-4
 returns-4 c =

@@ -9,7 +9,7 @@ use Prim.Native.Nat.{_+_, _*_, _≤_}
 use native.Mathlib.Omega.{arith}
 use denote.Ref.{now}
 use lib.ListN.{length}
-use Rattle.packs.specs.Question.{runs}
+use Rattle.packs.specs.Question.{entryInForce}
 use Rattle.packs.specs.Sheet.{entriesPlace, entrySize, entriesIn, howMany}
 use Rattle.packs.proofs.Entries.{many-end, many-step}
 use Rattle.packs.proofs.question.count_in_force.Statement.{statement}
@@ -18,7 +18,7 @@ use Rattle.packs.proofs.question.count_in_force.Tie as tie
 abbrev Inv-loop : tie.InvT-loop
 Inv-loop sheet n pack tick found₀ at₀ left₀ found at left =
     (at + left * entrySize ≤ length sheet) × (found + left ≤ n)
-    × (found + howMany (runs pack tick) (entriesIn left sheet at) ≡ howMany (runs pack tick) (entriesIn n sheet entriesPlace))
+    × (found + howMany (entryInForce pack tick) (entriesIn left sheet at) ≡ howMany (entryInForce pack tick) (entriesIn n sheet entriesPlace))
 
 abbrev μ-loop : tie.MeasureT-loop
 μ-loop sheet n pack tick found₀ at₀ left₀ found at left = left
@@ -29,8 +29,8 @@ loop-holds c = omega arith
 entry-at-requires : tie.Need-entry-at-requires Inv-loop μ-loop
 entry-at-requires c κs = omega arith
 
-runs-requires : tie.Need-runs-requires Inv-loop μ-loop
-runs-requires c κs = search needs
+is-in-force-requires : tie.Need-is-in-force-requires Inv-loop μ-loop
+is-in-force-requires c κs = search needs
 
 add-found : tie.Need-add-found Inv-loop μ-loop
 add-found c = omega arith
@@ -48,9 +48,9 @@ loop-again : tie.Need-loop-again Inv-loop μ-loop
 loop-again c =
     let a = c .before .before .before .before .before .before .args in
     let l = c .before .before .before .before .loop in
-    let step = many-step (runs (a .pack) (a .tick)) (l .left) (now (a .sheet)) (l .at) in
+    let step = many-step (entryInForce (a .pack) (a .tick)) (l .left) (now (a .sheet)) (l .at) in
     let p = c .before .before .before .loop-test .taken in
-    let found = ap (runs (a .pack) (a .tick)) (sym (c .before .before .entry-at .ensures)) ∙ sym (c .before .runs .ensures) in
+    let found = ap (entryInForce (a .pack) (a .tick)) (sym (c .before .before .entry-at .ensures)) ∙ sym (c .before .is-in-force .ensures) in
     ⊎-elim
     (λ w. omega (arith, step true p (found ∙ w .0 .taken)))
     (λ w. omega (arith, step false p (found ∙ w .0 .left)))
@@ -60,7 +60,7 @@ returns : tie.Need-returns Inv-loop μ-loop
 returns c =
     let a = c .before .before .before .args in
     let l = c .before .loop in
-    omega (arith, many-end (runs (a .pack) (a .tick)) (l .left) (now (a .sheet)) (l .at) (c .loop-test .left))
+    omega (arith, many-end (entryInForce (a .pack) (a .tick)) (l .left) (now (a .sheet)) (l .at) (c .loop-test .left))
 
 pub count-in-force-spec : {M : Type 1} → statement M
 count-in-force-spec =
@@ -70,7 +70,7 @@ count-in-force-spec =
     μ-loop
     loop-holds
     entry-at-requires
-    runs-requires
+    is-in-force-requires
     add-found
     add-at
     sub-left

@@ -8,7 +8,7 @@ use denote.Ref.{now}
 use borrow.Author.Tests.{lt-ltb, le-ltb}
 use Rattle.fields.specs.Field.{words}
 use Rattle.forms.specs.Column.{count}
-use Rattle.packs.specs.Question.{runs, licence}
+use Rattle.packs.specs.Question.{entryInForce, licence}
 use Rattle.packs.specs.Sheet.{entriesPlace, entrySize, entriesIn, packs, howMany}
 use Rattle.packs.specs.declared.sheet.Entry.{Entry}
 use Rattle.packs.proofs.Entries.{packs-words}
@@ -31,7 +31,7 @@ returns : tie.Need-returns
 unfolding licence
 returns c =
     let d = c .before .before .before in
-    rw (lt-ltb 0 (howMany (runs (d .args .pack) (d .args .tick)) (entries d)) (omega arith))
+    rw (lt-ltb 0 (howMany (entryInForce (d .args .pack) (d .args .tick)) (entries d)) (omega arith))
 
 count-word-requires : tie.Need-count-word-requires
 count-word-requires c κs = search needs
@@ -41,7 +41,7 @@ unfolding licence
 returns-2 c =
     let d = c .before .before .before .before .before in
     rw (
-      le-ltb 0 (howMany (runs (d .args .pack) (d .args .tick)) (entries d)) (omega arith),
+      le-ltb 0 (howMany (entryInForce (d .args .pack) (d .args .tick)) (entries d)) (omega arith),
       lt-ltb 0 (count (d .args .pack) (packs (entries d))) (omega (arith, listed d)),
     )
 
@@ -50,7 +50,7 @@ unfolding licence
 returns-3 c =
     let d = c .before .before .before .before .before in
     rw (
-      le-ltb 0 (howMany (runs (d .args .pack) (d .args .tick)) (entries d)) (omega arith),
+      le-ltb 0 (howMany (entryInForce (d .args .pack) (d .args .tick)) (entries d)) (omega arith),
       le-ltb 0 (count (d .args .pack) (packs (entries d))) (omega (arith, listed d)),
     )
 

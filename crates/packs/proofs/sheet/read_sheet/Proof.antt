@@ -9,7 +9,7 @@ use lib.ListN.{length}
 use borrow.Author.Tests.{lt-ltb, le-ltb, eq-eqb, ne-eqb}
 use Rattle.packs.specs.Number.{verdictOf}
 use Rattle.packs.specs.Sheet.{entriesPlace, mostEntries, sheetSize, countOf, offsetOf, sheetNumber, sheetTold}
-use Rattle.packs.proofs.Told.{sheet-refused, sheet-taken}
+use Rattle.packs.proofs.Told.{refused-sheet, sheet-taken}
 use Rattle.packs.proofs.sheet.read_sheet.Statement.{statement}
 use Rattle.packs.proofs.sheet.read_sheet.Tie as tie
 
@@ -87,7 +87,7 @@ number c =
 returns-5 : tie.Need-returns-5
 returns-5 c =
     let b = now (c .before .before .before .before .before .before .before .before .before .before .before .args .b) in
-    sym (sheet-refused b (c .before .why .given .0 .0) (number (c .before .before .before) ∙ ap verdictOf (c .before .why .given .1)))
+    sym (refused-sheet b (c .before .why .given .0 .0) (number (c .before .before .before) ∙ ap verdictOf (c .before .why .given .1)))
 
 returns-6 : tie.Need-returns-6
 returns-6 c =

@@ -1,4 +1,4 @@
--- `calls::sheet` meets its contract: it tells what the writer told, a refusal by its number.
+-- `calls::write_sheet` meets its contract: it tells what the writer told, a refusal by its number.
 -- Assumes nothing.
 use borrow.Author.Needs.{needs}
 use mathlib.Core.Path.{sym, ap, _∙_}
@@ -6,8 +6,8 @@ use Prim.Native.Nat.{ℕ}
 use Rattle.forms.specs.Form.{refusedWrite}
 use Rattle.packs.specs.Writer.{writtenBy}
 use Rattle.packs.specs.declared.writer.Written.{Written}
-use Rattle.packs.proofs.calls.sheet.Statement.{statement}
-use Rattle.packs.proofs.calls.sheet.Tie as tie
+use Rattle.packs.proofs.calls.write_sheet.Statement.{statement}
+use Rattle.packs.proofs.calls.write_sheet.Tie as tie
 
 write-sheet-requires : tie.Need-write-sheet-requires
 write-sheet-requires c κs = search needs
@@ -40,8 +40,8 @@ returns-2 c =
     let w = c .before .before .before .before .before .write-sheet in
     sym (ap (λ (r : Written). writtenBy r (w .last .1 .0)) (c .before .written .given .1)) ∙ w .ensures
 
-pub sheet-spec : {M : Type 1} → statement M
-sheet-spec =
+pub write-sheet-spec : {M : Type 1} → statement M
+write-sheet-spec =
     tie.close
     (tie.spec
     write-sheet-requires

@@ -1,9 +1,9 @@
--- `question::runs` meets its contract: each test that fails is a part of the definition that fails, and the last one is its last part.
+-- `question::is_in_force` meets its contract: each test that fails is a part of the definition that fails, and the last one is its last part.
 -- Assumes nothing.
 use native.Mathlib.Omega.{arith}
 use borrow.Author.Tests.{eq-eqb, ne-eqb, le-leb, lt-leb}
-use Rattle.packs.proofs.question.runs.Statement.{statement}
-use Rattle.packs.proofs.question.runs.Tie as tie
+use Rattle.packs.proofs.question.is_in_force.Statement.{statement}
+use Rattle.packs.proofs.question.is_in_force.Tie as tie
 
 returns : tie.Need-returns
 returns c =
@@ -20,5 +20,5 @@ returns-3 c =
     let a = c .before .before .before .before .before .args in
     rw (eq-eqb (a .e .pack) (a .pack) (omega arith), le-leb (a .e .first) (a .tick) (omega arith))
 
-pub runs-spec : {M : Type 1} → statement M
-runs-spec = tie.close (tie.spec returns returns-2 returns-3)
+pub is-in-force-spec : {M : Type 1} → statement M
+is-in-force-spec = tie.close (tie.spec returns returns-2 returns-3)

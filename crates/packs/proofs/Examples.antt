@@ -2,14 +2,17 @@
 -- Assumes nothing.
 use mathlib.Core.Path.{_≡_, refl}
 use Prim.Native.Nat.{ℕ, _+_, _*_}
-use mathlib.Core.List.{List, [], _∷_, _++_}
+use mathlib.Core.List.{List, [], _∷_, _++_, List·Permᴰ·swap}
 use lib.ListN.{replicate}
 use Rattle.fields.specs.Field.{field, putField}
 use Rattle.forms.specs.Column.{count, twins}
+use Rattle.rules.specs.Describe.{lastTick}
+use Rattle.node.specs.Calls.{readNumber}
+use Rattle.node.specs.Image.{layout, fixedHeader, soundImage}
 use Rattle.packs.specs.Number.{notLicensed, notInForce, inForce}
 use Rattle.packs.specs.Sheet.{entrySize, mostEntries, entriesIn, entriesOf, packs, howMany, entriesNumber}
-use Rattle.packs.specs.Sheet.{sheetNumber, sheetTold, entryOn}
-use Rattle.packs.specs.Question.{licence}
+use Rattle.packs.specs.Sheet.{entriesPlace, sheetNumber, sheetTold, entryOn, Reordered}
+use Rattle.packs.specs.Question.{licence, refusedPack, packNumber, packTold}
 use Rattle.packs.specs.Writer.{insert, ascending, putEntry, putEntries, putSheet, writeNumber, sheetWritten}
 
 -- the bytes of an entry of small numbers
@@ -31,6 +34,23 @@ two =
 taken : sheetTold two ≡ record { number = 0; count = 2 }
 unfolding two sheetTold sheetNumber entriesNumber entriesIn packs howMany count twins field
 taken = refl
+
+-- its entries exchanged
+exchanged : List ℕ
+exchanged =
+    0 ∷ 2 ∷ 0 ∷ 4
+    ∷ 0 ∷ 0 ∷ 0 ∷ 7 ∷ 0 ∷ 0 ∷ 3 ∷ 232 ∷ 0 ∷ 0 ∷ 3 ∷ 232
+    ∷ 0 ∷ 0 ∷ 0 ∷ 9 ∷ 0 ∷ 0 ∷ 0 ∷ 20 ∷ 0 ∷ 0 ∷ 0 ∷ 30
+    ∷ []
+
+reordered : Reordered entriesPlace two exchanged
+unfolding two exchanged entriesIn field
+reordered = record { size = refl; front = refl; entries = List·Permᴰ·swap refl refl }
+
+-- an image that is refused is refused first, whatever the sheet is
+image-first : packTold layout lastTick [] 9 [] ≡ refusedPack 8
+unfolding packTold packNumber readNumber soundImage fixedHeader
+image-first = refl
 
 -- line by line, and past the last line
 lines :

@@ -8,7 +8,7 @@ use mathlib.Core.Bool.{true}
 use mathlib.Core.Logic.{_↔_}
 use mathlib.Core.List.{List, _++_, List·Memᴰ, List·Permᴰ}
 use Prim.Native.Nat.{ℕ, _≤_}
-use lib.ListN.{length, drop}
+use lib.ListN.{length, getD, drop}
 use Rattle.fields.specs.Field.{Bytes}
 use Rattle.forms.specs.Column.{ascends}
 use Rattle.forms.specs.Table.{Says}
@@ -19,17 +19,19 @@ use Rattle.node.specs.Image.{layout}
 use Rattle.node.specs.Runs.{Call}
 use Rattle.packs.specs.Number.{notLicensed, notInForce, inForce}
 use Rattle.packs.specs.Question.{licence, PackTold, refusedPack, packTold, entriesSay}
-use Rattle.packs.specs.Sheet.{entriesPlace, sheetSize, entriesOf, packs, sheetNumber, refusedSheet, sheetTold, Reordered}
-use Rattle.packs.specs.Table.{sheetChecks, packChecks, sheetWriterChecks, Covers, OnSheet}
-use Rattle.packs.specs.Writer.{entriesGiven, sheetWritten, bytesWritten}
+use Rattle.packs.specs.Sheet.{entriesPlace, sheetSize, entriesOf, packs, entriesNumber, sheetNumber}
+use Rattle.packs.specs.Sheet.{refusedSheet, sheetTold, entryOn, noEntry, Reordered}
+use Rattle.packs.specs.Table.{sheetChecks, packChecks, sheetWriterChecks, Covers, InForce, OnSheet}
+use Rattle.packs.specs.Writer.{ascending, entriesGiven, sheetWritten, bytesWritten}
 use Rattle.packs.specs.declared.sheet.Entry.{Entry}
 use Rattle.packs.proofs.Ascending.{ascending-perm}
 use Rattle.packs.proofs.Ended.{ended, absent}
 use Rattle.packs.proofs.Meaning.{sheet-says, sheet-refusal, pack-says, pack-refusal, packs-taken}
-use Rattle.packs.proofs.Meaning.{sheet-writer-says, sheet-writer-refusal, not-licensed-says, the-entry-decides}
+use Rattle.packs.proofs.Meaning.{sheet-writer-says, sheet-writer-refusal}
+use Rattle.packs.proofs.Meaning.{in-force-says, not-licensed-says, the-entry-decides, the-entry-denies}
 use Rattle.packs.proofs.Order.{sheet-order, pack-order}
-use Rattle.packs.proofs.RoundTrip.{sheet-read-back, entries-read-back, sheet-ascends, answers-read-back, same-bytes, sheet-kept}
-use Rattle.packs.proofs.RoundTrip.{written-again}
+use Rattle.packs.proofs.RoundTrip.{sheet-read-back, entries-read-back, entry-read-back, sheet-ascends, answers-read-back}
+use Rattle.packs.proofs.RoundTrip.{sheet-kept, same-bytes, written-again}
 use Rattle.packs.proofs.Told.{taken-parts}
 
 -- ---- The reader
@@ -49,6 +51,19 @@ module _ (sheet : List ℕ) (pack : ℕ) (image : List ℕ) where
   abbrev asked : PackTold
   asked = packTold layout lastTick sheet pack image
 
+  -- the clock that read gives
+  abbrev clock : ℕ
+  clock = reading layout lastTick image .clock
+
+  -- an answer tells how the pack stands at the clock
+  told-by : asked .number ≡ 0 → {n : ℕ} {A : Type 0} → (licence pack clock (entriesOf sheet) ≡ n) ↔ A → (asked .licence ≡ n) ↔ A
+  told-by ok says =
+      let said = packs-taken layout lastTick sheet pack image ok .2 in
+      (λ q. says .0 (sym said ∙ q), λ x. said ∙ says .1 x)
+
+  entries-taken : asked .number ≡ 0 → entriesNumber (entriesOf sheet) ≡ 0
+  entries-taken ok = taken-parts sheet (packs-taken layout lastTick sheet pack image ok .1) .1
+
   -- 8 and 12 of the image, then 14 to 16 of the sheet, each exactly when its row applies
   pub pack-numbers : Says (asked .number) (packChecks layout lastTick sheet image)
   pack-numbers = pack-says layout lastTick sheet pack image
@@ -57,34 +72,45 @@ module _ (sheet : List ℕ) (pack : ℕ) (image : List ℕ) where
   pub pack-refused : (asked .number ≡ 0 → ⊥) → asked ≡ refusedPack (asked .number)
   pack-refused = pack-refusal layout lastTick sheet pack image
 
-  -- In force is first ≤ clock < end, for the entry that has the number, wherever on the sheet it stands
-  pub in-force-exactly :
+  -- In force is a number for which some entry has first ≤ clock < end
+  pub in-force-exactly : asked .number ≡ 0 → (asked .licence ≡ inForce) ↔ InForce pack clock (entriesOf sheet)
+  in-force-exactly ok = told-by ok (in-force-says pack clock (entriesOf sheet))
+
+  -- The entry that has the number decides, wherever on the sheet it stands: in force where it covers the clock,
+  pub the-entry-in-force :
       (e : Entry)
       → asked .number ≡ 0
       → List·Memᴰ e (entriesOf sheet)
       → e .pack ≡ pack
-      → (asked .licence ≡ inForce) ↔ Covers (reading layout lastTick image .clock) e
-  in-force-exactly e ok listed same =
-      let taken = packs-taken layout lastTick sheet pack image ok in
-      let decides = the-entry-decides (reading layout lastTick image .clock) (taken-parts sheet (taken .1) .1) listed in
-      let said = taken .2 ∙ ap (λ (p : ℕ). licence p (reading layout lastTick image .clock) (entriesOf sheet)) (sym same) in
-      (λ q. decides .0 (sym said ∙ q), λ c. said ∙ decides .1 c)
+      → (asked .licence ≡ inForce) ↔ Covers clock e
+  the-entry-in-force e ok listed same =
+      told-by ok (subst (λ (p : ℕ). (licence p clock (entriesOf sheet) ≡ inForce) ↔ Covers clock e) same
+      (the-entry-decides clock (entries-taken ok) listed))
+
+  -- and on the sheet but not in force where it does not
+  pub the-entry-not-in-force :
+      (e : Entry)
+      → asked .number ≡ 0
+      → List·Memᴰ e (entriesOf sheet)
+      → e .pack ≡ pack
+      → (asked .licence ≡ notInForce) ↔ (Covers clock e → ⊥)
+  the-entry-not-in-force e ok listed same =
+      told-by ok (subst (λ (p : ℕ). (licence p clock (entriesOf sheet) ≡ notInForce) ↔ (Covers clock e → ⊥)) same
+      (the-entry-denies clock (entries-taken ok) listed))
 
   -- Not licensed is a number that no entry has
   pub not-licensed-exactly : asked .number ≡ 0 → (asked .licence ≡ notLicensed) ↔ (OnSheet pack (entriesOf sheet) → ⊥)
-  not-licensed-exactly ok =
-      let said = packs-taken layout lastTick sheet pack image ok .2 in
-      let decides = not-licensed-says pack (reading layout lastTick image .clock) (entriesOf sheet) in
-      (λ q. decides .0 (sym said ∙ q), λ n. said ∙ decides .1 n)
+  not-licensed-exactly ok = told-by ok (not-licensed-says pack clock (entriesOf sheet))
 
-  -- The clock never falls, so a pack that has ended never comes back: whatever is delivered, refused or read meanwhile
+  -- The clock never falls, so a pack that has ended never comes back: whatever is delivered, refused or read meanwhile. (This is about
+  -- one node. A boot makes another, whose clock begins at 0.)
   pub ended-never-comes-back :
       (e : Entry) (calls : List Call)
       → Bytes image
       → asked .number ≡ 0
       → List·Memᴰ e (entriesOf sheet)
       → e .pack ≡ pack
-      → e .end ≤ reading layout lastTick image .clock
+      → e .end ≤ clock
       → packTold layout lastTick sheet pack (imageLeft layout lastTick image calls) ≡ record { number = 0; licence = notInForce }
   ended-never-comes-back e calls bytes ok = ended sheet pack image calls bytes ok e
 
@@ -149,7 +175,14 @@ module _ (entries out : List ℕ) where
       subst (λ (es : List Entry). List·Permᴰ es (entriesGiven entries)) (sym (entries-read-back entries out bytes ok))
       (ascending-perm (entriesGiven entries))
 
-  -- in ascending pack number,
+  -- line by line in ascending pack number,
+  pub written-lines :
+      (line : ℕ)
+      → Bytes entries
+      → sheetWritten entries out .number ≡ 0
+      → entryOn (bytesWritten entries out) line ≡ getD (ascending (entriesGiven entries)) line noEntry
+  written-lines line bytes ok = entry-read-back entries out bytes ok line
+
   pub written-ascends :
       Bytes entries
       → sheetWritten entries out .number ≡ 0

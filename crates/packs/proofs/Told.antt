@@ -90,8 +90,7 @@ module _ (b : List ℕ) where
       let front = short || not (eqb (offsetOf b) entriesPlace) in
       let size = neither (front || ltb mostEntries (countOf b)) _ e in
       let few = neither front (ltb mostEntries (countOf b)) (size .0) in
-      let offset = neither short _ (few .0) in
-      (
+      let offset = neither short _ (few .0) in (
         eqb-true (offsetOf b) entriesPlace (not-false _ (offset .1)),
         ltb-false mostEntries (countOf b) (few .1),
         eqb-true (length b) (sheetSize (countOf b)) (not-false _ (size .1)),

@@ -24,7 +24,7 @@
 extern "C" {
 #endif
 
-/* Bytes of a roster form and of a node image for n controllers, of a frame, of an outgoing record, and of the output to lend. */
+/* Bytes of a roster form and of a node image for n controllers, of a frame, of a record to send, and of the output of boot and deliver. */
 #define PEBRASSOLA_FORM_BYTES(n) (8u + 4u * (size_t)(n))
 #define PEBRASSOLA_IMAGE_BYTES(n) (32u + 28u * (size_t)(n))
 #define PEBRASSOLA_FRAME_BYTES 8u
@@ -89,7 +89,7 @@ struct pebrassola_written {
 /* What a sheet grants a pack at the tick that a node's clock has. A pack may be used while it is in force, and only then. */
 enum pebrassola_licences {
     PEBRASSOLA_NOT_LICENSED = 0, /* no entry of the sheet has this pack number */
-    PEBRASSOLA_NOT_IN_FORCE = 1, /* on the sheet, and the clock is below first, or end or above */
+    PEBRASSOLA_NOT_IN_FORCE = 1, /* on the sheet, and the clock is below first, or is end or above */
     PEBRASSOLA_IN_FORCE = 2      /* on the sheet, and first <= clock < end */
 };
 
@@ -114,15 +114,15 @@ struct pebrassola_reading pebrassola_read(const uint8_t *image, size_t image_len
 
 /*
  * Says whether a pack of a sheet is in force at the tick that this node's clock has. Entries may stand in any order, and their order
- * decides nothing. Gives 8, 12, 14, 15, 16 in this order, each looked for in the whole sheet and not in the pack's own entry alone.
- * Pack 0 is on no sheet. Nothing is written.
+ * decides nothing. Gives 8 and 12 of the image, then 14, 15, 16 of the whole sheet and not of the pack's own entry alone. Pack 0
+ * is on no sheet. Nothing is written.
  */
 struct pebrassola_licence pebrassola_pack(const uint8_t *sheet, size_t sheet_length, uint32_t pack, const uint8_t *image,
                                           size_t image_length);
 
 /*
  * Writes a sheet of entries that stand one behind the other, in any order and without a header: count, offset, then the entries in
- * ascending pack number. Gives 14, 15, 16, then 7. Bytes behind the sheet stay.
+ * ascending pack number. Room for n entries is PEBRASSOLA_SHEET_BYTES(n). Gives 14, 15, 16, then 7. Bytes behind the sheet stay.
  */
 struct pebrassola_written pebrassola_write_sheet(const uint8_t *entries, size_t entries_length, uint8_t *out, size_t out_length);
 

@@ -58,7 +58,7 @@ static size_t bytes_column(uint8_t *b)
     return length;
 }
 
-/* what a buffer holds before the call, and afterwards unless the line says so */
+/* what a buffer holds before the call, and afterwards unless the line says otherwise */
 static void lend_column(struct both *b)
 {
     uint8_t bytes[MOST];

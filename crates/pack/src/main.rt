@@ -70,7 +70,10 @@ fn answer(pack: u32) {
 }
 
 fn usage() {
-    io::write_all(STDERR_FILENO, b"usage: pack SHEET IMAGE NUMBER\n");
+    io::write_all(
+        STDERR_FILENO,
+        b"usage: bin/pack SHEET IMAGE NUMBER (from 0 to 4294967295)\n",
+    );
 }
 
 fn main() {

@@ -52,5 +52,6 @@ module _ (sheet : List ℕ) (pack : ℕ) (image : List ℕ) (calls : List Call)
       ∙ the-entry-denies clock (taken-parts sheet sheet-taken .1) listed .1 (λ c. omega (arith, later .1, c .1)))
 
   -- a pack that is not on the sheet is not licensed
-  pub absent : (OnSheet pack (entriesOf sheet) → ⊥) → packTold layout lastTick sheet pack left ≡ record { number = 0; licence = notLicensed }
+  pub absent : (OnSheet pack (entriesOf sheet) → ⊥) →
+      packTold layout lastTick sheet pack left ≡ record { number = 0; licence = notLicensed }
   absent out = asked-again notLicensed (not-licensed-says pack clock (entriesOf sheet) .1 out)

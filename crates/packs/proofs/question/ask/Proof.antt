@@ -54,7 +54,8 @@ taken : (c : tie.After-known-told2) →
     let b = now (c .before .before .before .before .before .before .before .before .before .before .before .args .sheet) in
     (sheetNumber b ≡ 0) × (c .before .count .given .0 .0 ≡ countOf b)
 taken c =
-    told-taken (now (c .before .before .before .before .before .before .before .before .before .before .before .args .sheet)) (c .before .count .given .0 .0)
+    let b = now (c .before .before .before .before .before .before .before .before .before .before .before .args .sheet) in
+    told-taken b (c .before .count .given .0 .0)
     (ap toldBy (sym (c .before .count .given .1)) ∙ c .before .before .before .read-sheet .ensures)
 
 find-licence-requires : tie.Need-find-licence-requires

@@ -18,7 +18,8 @@ use Rattle.packs.proofs.question.count_in_force.Tie as tie
 abbrev Inv-loop : tie.InvT-loop
 Inv-loop sheet n pack tick found₀ at₀ left₀ found at left =
     (at + left * entrySize ≤ length sheet) × (found + left ≤ n)
-    × (found + howMany (entryInForce pack tick) (entriesIn left sheet at) ≡ howMany (entryInForce pack tick) (entriesIn n sheet entriesPlace))
+    × (found + howMany (entryInForce pack tick) (entriesIn left sheet at)
+    ≡ howMany (entryInForce pack tick) (entriesIn n sheet entriesPlace))
 
 abbrev μ-loop : tie.MeasureT-loop
 μ-loop sheet n pack tick found₀ at₀ left₀ found at left = left
@@ -50,7 +51,8 @@ loop-again c =
     let l = c .before .before .before .before .loop in
     let step = many-step (entryInForce (a .pack) (a .tick)) (l .left) (now (a .sheet)) (l .at) in
     let p = c .before .before .before .loop-test .taken in
-    let found = ap (entryInForce (a .pack) (a .tick)) (sym (c .before .before .entry-at .ensures)) ∙ sym (c .before .is-in-force .ensures) in
+    let entry = sym (c .before .before .entry-at .ensures) in
+    let found = ap (entryInForce (a .pack) (a .tick)) entry ∙ sym (c .before .is-in-force .ensures) in
     ⊎-elim
     (λ w. omega (arith, step true p (found ∙ w .0 .taken)))
     (λ w. omega (arith, step false p (found ∙ w .0 .left)))

@@ -1,4 +1,5 @@
--- `question::is_in_force` meets its contract: each test that fails is a part of the definition that fails, and the last one is its last part.
+-- `question::is_in_force` meets its contract: each test that fails is a part of the definition that fails, and the last one is its last
+-- part.
 -- Assumes nothing.
 use native.Mathlib.Omega.{arith}
 use borrow.Author.Tests.{eq-eqb, ne-eqb, le-leb, lt-leb}

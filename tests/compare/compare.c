@@ -19,6 +19,12 @@ uint32_t any(uint32_t below)
     return (uint32_t)((seed >> 16) % below);
 }
 
+void change_byte(uint8_t *bytes, uint32_t length)
+{
+    uint8_t *byte = bytes + any(length);
+    *byte ^= (uint8_t)(1 + any(255));
+}
+
 void shuffle(uint8_t *items, unsigned count, size_t bytes)
 {
     uint8_t held[16];

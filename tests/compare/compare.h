@@ -8,6 +8,9 @@
 /* a random number below this one, the same in each run */
 uint32_t any(uint32_t below);
 
+/* gives one of so many bytes another value. (A call has one random number in its arguments at most: C leaves their order open.) */
+void change_byte(uint8_t *bytes, uint32_t length);
+
 /* exchanges items of so many bytes at random */
 void shuffle(uint8_t *items, unsigned count, size_t bytes);
 

@@ -87,7 +87,7 @@ static void make_frame(uint8_t *b, const uint8_t *kept)
     default: tick = k + any(5) - (k > 1 ? 2 : 0); break;
     }
     put4(b + 4, tick);
-    if (any(50) == 0) b[any(4)] = (uint8_t)any(256);
+    if (any(50) == 0) change_byte(b, 4);
 }
 
 size_t live(uint8_t *form, uint8_t *kept, unsigned n, unsigned faults, unsigned frames)
@@ -120,7 +120,8 @@ static void run(unsigned n, unsigned faults, unsigned steps)
         uint32_t port = get4(f + 8 + 4 * any(n));
         if (any(40) == 0) port = any(3) ? any(100) : 0;
         make_frame(fr, kept);
-        deliver(kept, size, port, fr, any(60) ? 8 : any(12), any(60) ? 192 + any(9) : any(193));
+        size_t length = any(60) ? 8 : any(12), room = any(60) ? 192 + any(9) : any(193);
+        deliver(kept, size, port, fr, length, room);
         if (s % 4 == 0) read_clock(kept, size);
     }
 }
@@ -129,7 +130,7 @@ static void run(unsigned n, unsigned faults, unsigned steps)
 static void make_set(uint8_t *b, uint32_t base)
 {
     uint32_t top = base > 4 && base < 3999999990u ? base - 4 + any(7) : base;
-    uint64_t mask = (uint64_t)any(0x80000000u) << 33 ^ (uint64_t)any(0x80000000u) << 2 ^ any(4);
+    uint64_t high = any(0x80000000u), middle = any(0x80000000u), mask = high << 33 ^ middle << 2 ^ any(4);
     if (any(2)) mask &= mask >> 7 & mask >> 13;
     mask |= 1;
     if (top < 63) mask &= ((uint64_t)1 << (top + 1)) - 1;
@@ -183,17 +184,19 @@ static void forms(unsigned rounds)
     uint8_t f[MOST], kept[MOST];
     memset(kept, 7, sizeof kept);
     for (unsigned r = 0; r < rounds; r++) {
-        unsigned n = 1 + any(34), faults = any(3) ? any(n) / 3 : any(256);
-        size_t length = make_form(f, n, faults), size = 32 + 28 * (size_t)n;
+        unsigned n = 1 + any(34), faults = any(3) ? any(n) / 3 : any(256), line = any(n);
+        size_t length = make_form(f, n, faults), size = 32 + 28 * (size_t)n, room;
         switch (any(8)) {
-        case 0: put4(f + 8 + 4 * any(n), 0); break;
-        case 1: memcpy(f + 8 + 4 * any(n), f + 8 + 4 * any(n), 4); break;
+        case 0: put4(f + 8 + 4 * line, 0); break;
+        case 1: put4(f + 8 + 4 * line, get4(f + 8 + 4 * any(n))); break;
         case 2: put4(f + 4, any(3)); break;
-        case 3: f[any(4)] = (uint8_t)any(256); break;
+        case 3: change_byte(f, 4); break;
         case 4: length = any((uint32_t)length + 6); break;
         default: break;
         }
-        boot(f, length, kept, any(4) ? size : any((uint32_t)size + 40), any(4) ? 192 : any(200));
+        if (any(4) == 0) size = any((uint32_t)size + 40);
+        room = any(4) ? 192 : any(200);
+        boot(f, length, kept, size, room);
     }
 }
 

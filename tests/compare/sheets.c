@@ -197,7 +197,7 @@ static size_t make_node(uint8_t *kept)
     size_t size;
     if (any(32) == 0) size = live(form, kept, n, 0, any(60));
     else size = make_idle(kept, n, any(8) != 0, k <= last_tick ? k : last_tick);
-    if (any(16) == 0) kept[any((uint32_t)size)] ^= (uint8_t)(1 + any(255));
+    if (any(16) == 0) change_byte(kept, (uint32_t)size);
     if (any(16) == 0) size = any((uint32_t)size + 1);
     return size;
 }

@@ -27,7 +27,7 @@ use Rattle.forms.proofs.Told.{form-length, form-roster}
 
 -- ---- what a writer answers
 
-pub settled : (a b : ℕ) → (a ≢ b → ⊥) → a ≡ b
+settled : (a b : ℕ) → (a ≢ b → ⊥) → a ≡ b
 settled a b h = elim (ℕ-discrete a b) [ yes e ↦ e | no n ↦ absurd (h n) ]
 
 module _ (number size : ℕ) (before after : List ℕ) where

@@ -5,7 +5,7 @@ use mathlib.Core.Path.{_≡_, refl, sym, ap, _∙_}
 use mathlib.Core.Bool.{Bool, true, false, cond}
 use mathlib.Core.Logic.{_⊎_, inl, inr}
 use mathlib.Core.List.{List}
-use Prim.Native.Nat.{ℕ, zero, suc, _≤_, _<_}
+use Prim.Native.Nat.{ℕ, _≤_, _<_}
 use native.Mathlib.Decide.{decLe, ℕ-discrete}
 use native.Mathlib.Omega.{arith}
 use lib.ListN.{length, getD}
@@ -15,7 +15,7 @@ use Rattle.fields.specs.Field.{field}
 use Rattle.fields.specs.Kind.{INIT, ECHO}
 use Rattle.forms.specs.Form.{serialsPlace, linesOf, faultsOf, ownOf, formNumber, FormTold, formTold, toldBy}
 use Rattle.forms.specs.Frame.{frameSize, frameNumber}
-use Rattle.forms.specs.Number.{numberOf, orElse}
+use Rattle.forms.specs.Number.{numberOf}
 use Rattle.forms.specs.Column.{count}
 use Rattle.forms.specs.declared.answer.Refusal.{Refusal}
 use Rattle.forms.specs.declared.form.Form.{Form}

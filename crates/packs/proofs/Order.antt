@@ -1,13 +1,10 @@
 -- The order of entries decides nothing: a sheet whose entries are reordered gets the same number and every question the same answer.
 -- Assumes nothing.
 use mathlib.Core.Path.{_≡_, refl, sym, ap, ap₂, _∙_, subst₂}
-use mathlib.Core.Bool.{Bool, true, false, cond, false≢true}
-use mathlib.Core.Logic.{inr}
+use mathlib.Core.Bool.{Bool, true, false, cond}
 use mathlib.Core.List.{List, List·Permᴰ, List·Permᴰ·nil, List·Permᴰ·cons, List·Permᴰ·swap, List·Permᴰ·trans}
 use Prim.Native.Nat.{ℕ, _+_, _≤_}
-use native.Mathlib.Decide.{ℕ-discrete}
 use native.Mathlib.Omega.{arith}
-use lib.ListN.{length}
 use lib.Dec.{eqb}
 use borrow.Author.Tests.{eqb-true}
 use Rattle.fields.specs.Field.{field}
@@ -18,12 +15,11 @@ use Rattle.node.specs.Calls.{readNumber, reading}
 use Rattle.node.specs.Image.{Layout}
 use Rattle.forms.proofs.Told.{none-given}
 use Rattle.packs.specs.Question.{entryInForce, licence, PackTold, refusedPack, packNumber, packTold}
-use Rattle.packs.specs.Sheet.{entriesPlace, sheetSize, entriesIn, countOf, entriesOf, howMany, backward}
+use Rattle.packs.specs.Sheet.{entriesPlace, entriesIn, entriesOf, howMany, backward}
 use Rattle.packs.specs.Sheet.{entriesNumber, misplaced, sheetNumber, sheetTold, entriesFrom, Reordered}
 use Rattle.packs.specs.Writer.{writeNumber}
 use Rattle.packs.specs.declared.sheet.Entry.{Entry}
 use Rattle.packs.proofs.Ascending.{packs-order}
-use Rattle.packs.proofs.Meaning.{misplaced-says}
 use Rattle.packs.proofs.Told.{taken-parts, placed-parts}
 
 -- ---- entries, and the same ones in another order

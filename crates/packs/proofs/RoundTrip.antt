@@ -2,7 +2,7 @@
 -- written stay. Entries given in another order are written as the same bytes.
 -- Assumes nothing.
 use mathlib.Core.Path.{_≡_, refl, sym, ap, ap₂, _∙_}
-use mathlib.Core.Logic.{inl, inr}
+use mathlib.Core.Logic.{inr}
 use mathlib.Core.Bool.{Bool, true, false, cond}
 use mathlib.Core.List.{List, _++_, Permᴰ·symm}
 use Prim.Native.Nat.{ℕ, zero, suc, _+_, _-_, _*_, _/_, _%_, _≤_, _<_}
@@ -18,18 +18,17 @@ use Rattle.fields.proofs.Fields.{field-take, field-put, field-put-other, put-fi
 use Rattle.forms.specs.Column.{twins, ascends}
 use Rattle.forms.specs.Form.{WriteTold, writeTold}
 use Rattle.forms.specs.Number.{orElse}
-use Rattle.forms.proofs.RoundTrip.{settled, wrote, wrote-bytes, kept-bytes}
+use Rattle.forms.proofs.RoundTrip.{wrote, wrote-bytes, kept-bytes}
 use Rattle.node.specs.Calls.{readNumber, reading}
 use Rattle.node.specs.Image.{Layout}
 use Rattle.packs.specs.Question.{licence, PackTold, refusedPack, packNumber, packTold, entriesSay}
 use Rattle.packs.specs.Sheet.{entriesPlace, entrySize, mostEntries, sheetSize, entriesIn, countOf, offsetOf, entriesOf, packs}
 use Rattle.packs.specs.Sheet.{entriesNumber, sheetNumber, sheetTold, entryOn, noEntry, Reordered}
-use Rattle.packs.specs.Table.{Misplaced}
 use Rattle.packs.specs.Writer.{ascending, putEntries, putSheet, entriesGiven, unfit, writeNumber, sheetWritten, bytesWritten}
 use Rattle.packs.specs.declared.sheet.Entry.{Entry}
 use Rattle.packs.proofs.Ascending.{length-ascending, ascending-perm, ascending-order, ascending-ascends, ascending-self}
 use Rattle.packs.proofs.Entries.{length-entriesIn, entries-same}
-use Rattle.packs.proofs.Meaning.{sheet-number-says, sheet-writer-says}
+use Rattle.packs.proofs.Meaning.{sheet-writer-says}
 use Rattle.packs.proofs.Order.{entries-number-order, licence-order, write-number-order}
 use Rattle.packs.proofs.Puts.{narrow-entries, narrow-order, length-putEntries, field-putEntries-before}
 use Rattle.packs.proofs.Puts.{drop-putEntries, take-putEntries, entries-putEntries, putEntries-entries}

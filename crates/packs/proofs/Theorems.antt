@@ -3,7 +3,7 @@
 -- the rows of the table of numbers in Table. That the code gives just these answers, for every input, is the contract of each function
 -- (src/). The proofs are short here and stand in the files named.
 -- Assumes nothing.
-use mathlib.Core.Path.{_≡_, sym, ap, _∙_, subst}
+use mathlib.Core.Path.{_≡_, sym, _∙_, subst}
 use mathlib.Core.Bool.{true}
 use mathlib.Core.Logic.{_↔_}
 use mathlib.Core.List.{List, _++_, List·Memᴰ, List·Permᴰ}

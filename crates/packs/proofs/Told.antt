@@ -3,14 +3,13 @@
 -- Assumes nothing.
 use mathlib.Core.Path.{_≡_, refl, sym, ap, _∙_}
 use mathlib.Core.List.{List}
-use mathlib.Core.Bool.{Bool, true, false, cond, not, _||_, true≢false}
+use mathlib.Core.Bool.{Bool, true, false, cond, not, _||_}
 use Prim.Native.Nat.{ℕ, _≤_}
 use native.Mathlib.Omega.{arith}
 use lib.ListN.{length, getD}
 use lib.Dec.{ltb, eqb}
 use borrow.Author.Tests.{ltb-false, eqb-true, not-false}
 use Rattle.forms.specs.Column.{count, twins}
-use Rattle.forms.specs.Number.{orElse}
 use Rattle.node.specs.Calls.{readNumber, reading}
 use Rattle.node.specs.Image.{modePlace, soundImage}
 use Rattle.node.specs.Image.{Layout as ImageLayout}

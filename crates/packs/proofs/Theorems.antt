@@ -56,7 +56,8 @@ module _ (sheet : List ℕ) (pack : ℕ) (image : List ℕ) where
   clock = reading layout lastTick image .clock
 
   -- an answer tells how the pack stands at the clock
-  told-by : asked .number ≡ 0 → {n : ℕ} {A : Type 0} → (licence pack clock (entriesOf sheet) ≡ n) ↔ A → (asked .licence ≡ n) ↔ A
+  told-by : asked .number ≡ 0 → {n : ℕ} {A : Type 0} →
+      (licence pack clock (entriesOf sheet) ≡ n) ↔ A → (asked .licence ≡ n) ↔ A
   told-by ok says =
       let said = packs-taken layout lastTick sheet pack image ok .2 in
       (λ q. says .0 (sym said ∙ q), λ x. said ∙ says .1 x)

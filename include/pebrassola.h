@@ -115,7 +115,8 @@ struct pebrassola_reading pebrassola_read(const uint8_t *image, size_t image_len
 /*
  * Says whether a pack of a sheet is in force at the tick that this node's clock has. Entries may stand in any order, and their order
  * decides nothing. Gives 8 and 12 of the image, then 14, 15, 16 of the whole sheet and not of the pack's own entry alone. Pack 0
- * is on no sheet. Nothing is written.
+ * is on no sheet. Nothing is written. A node's clock never falls, so a pack that has ended does not come back; but a boot makes another
+ * node, whose clock begins at 0.
  */
 struct pebrassola_licence pebrassola_pack(const uint8_t *sheet, size_t sheet_length, uint32_t pack, const uint8_t *image,
                                           size_t image_length);

@@ -1,6 +1,6 @@
--- The pack sheet (02, A1): a header, count of entries in 2 bytes and their offset in 2, always 4, then up to 200 entries of 12 bytes:
--- pack number, first tick, and end, the first tick no longer licensed. What its reader gives, for every input. 15 and 16 look at the
--- entries through counts alone, 15 at all of them before 16 at any, so the order of entries decides nothing.
+-- The pack sheet (02, A1): two numbers of 2 bytes, how many entries there are and where they begin, and then the entries, three numbers of
+-- 4 bytes each. An entry licenses its pack from the tick first on, and until the tick before end. What the reader of a sheet gives, for
+-- every input. 15 and 16 look at the entries through counts alone, 15 at all of them before 16 at any, so their order decides nothing.
 use mathlib.Core.Path.{_≡_}
 use Prim.Native.Nat.{ℕ, zero, suc, _+_, _-_, _*_, _/_}
 use mathlib.Core.List.{List, [], _∷_, List·Permᴰ}

@@ -5,11 +5,11 @@ use Prim.Native.Nat.{ℕ}
 use mathlib.Core.List.{List, [], _∷_, List·Permᴰ·swap}
 use lib.ListN.{replicate}
 use Rattle.fields.specs.Field.{field, putField, words, putWords}
-use Rattle.fields.specs.Kind.{ECHO}
+use Rattle.fields.specs.Kind.{INIT, ECHO}
 use Rattle.forms.specs.Column.{count, twins}
 use Rattle.forms.specs.Roster.{rosterNumber}
 use Rattle.forms.specs.Form.{Reordered, formNumber, formTold, putForm, formWritten}
-use Rattle.forms.specs.Frame.{frameNumber, frameTold, putFrame, frameWritten}
+use Rattle.forms.specs.Frame.{BROADCAST, ANSWER, frameNumber, refusedFrame, frameTold, putFrame, frameWritten}
 
 -- the form of 01's whole case
 form : List ℕ
@@ -43,20 +43,42 @@ numbers :
 unfolding rosterNumber count twins
 numbers = (refl, refl, refl, refl, refl, refl, refl, refl, refl)
 
-frame : frameTold 4000000000 (2 ∷ 0 ∷ 0 ∷ 0 ∷ 238 ∷ 107 ∷ 40 ∷ 0 ∷ []) ≡ record { number = 0; kind = ECHO; tick = 4000000000 }
+frame :
+    frameTold 4000000000 (2 ∷ 0 ∷ 0 ∷ 0 ∷ 238 ∷ 107 ∷ 40 ∷ 0 ∷ [])
+    ≡ record { number = 0; frame = record { kind = ECHO; flag = BROADCAST; tick = 4000000000 } }
 unfolding frameTold frameNumber field
 frame = refl
 
-late : frameTold 4000000000 (2 ∷ 0 ∷ 0 ∷ 0 ∷ 238 ∷ 107 ∷ 40 ∷ 1 ∷ []) ≡ record { number = 11; kind = 0; tick = 0 }
+late : frameTold 4000000000 (2 ∷ 0 ∷ 0 ∷ 0 ∷ 238 ∷ 107 ∷ 40 ∷ 1 ∷ []) ≡ refusedFrame 11
 unfolding frameTold frameNumber field
 late = refl
 
--- nine bytes with a tick too great are 10, not 11
-long : frameNumber 4000000000 (1 ∷ 0 ∷ 0 ∷ 0 ∷ 255 ∷ 255 ∷ 255 ∷ 255 ∷ 0 ∷ []) ≡ 10
+-- an answer is an echo with flag 1, at any tick
+answered :
+    frameTold 4000000000 (2 ∷ 1 ∷ 0 ∷ 0 ∷ 0 ∷ 0 ∷ 0 ∷ 69 ∷ [])
+    ≡ record { number = 0; frame = record { kind = ECHO; flag = ANSWER; tick = 69 } }
+unfolding frameTold frameNumber field
+answered = refl
+
+-- nine bytes with a tick too great are 10, not 11; so are flag 1 on an init, flag 2, and a byte behind the flag
+misshapen-ones :
+    (frameNumber 4000000000 (1 ∷ 0 ∷ 0 ∷ 0 ∷ 255 ∷ 255 ∷ 255 ∷ 255 ∷ 0 ∷ []) ≡ 10)
+    × (frameNumber 4000000000 (1 ∷ 1 ∷ 0 ∷ 0 ∷ 0 ∷ 0 ∷ 0 ∷ 0 ∷ []) ≡ 10)
+    × (frameNumber 4000000000 (2 ∷ 2 ∷ 0 ∷ 0 ∷ 0 ∷ 0 ∷ 0 ∷ 0 ∷ []) ≡ 10)
+    × (frameNumber 4000000000 (2 ∷ 1 ∷ 1 ∷ 0 ∷ 0 ∷ 0 ∷ 0 ∷ 0 ∷ []) ≡ 10)
 unfolding frameNumber
-long = refl
+misshapen-ones = (refl, refl, refl, refl)
 
 frame-written :
-    frameWritten 4000000000 ECHO 69 (replicate 9 7) ≡ record { number = 0; written = 8; out = 2 ∷ 0 ∷ 0 ∷ 0 ∷ 0 ∷ 0 ∷ 0 ∷ 69 ∷ 7 ∷ [] }
+    frameWritten 4000000000 (record { kind = ECHO; flag = ANSWER; tick = 69 }) (replicate 9 7)
+    ≡ record { number = 0; written = 8; out = 2 ∷ 1 ∷ 0 ∷ 0 ∷ 0 ∷ 0 ∷ 0 ∷ 69 ∷ 7 ∷ [] }
 unfolding frameWritten putFrame putField
 frame-written = refl
+
+-- kind and flag come before the tick, the tick before the room
+frame-not-written :
+    (frameWritten 69 (record { kind = INIT; flag = ANSWER; tick = 70 }) [] .number ≡ 10)
+    × (frameWritten 69 (record { kind = ECHO; flag = ANSWER; tick = 70 }) [] .number ≡ 11)
+    × (frameWritten 69 (record { kind = ECHO; flag = ANSWER; tick = 69 }) [] .number ≡ 7)
+unfolding frameWritten
+frame-not-written = (refl, refl, refl)

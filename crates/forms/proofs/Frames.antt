@@ -1,18 +1,35 @@
--- Laws of a frame's kind, shared by the reader and the writer.
+-- Laws of a frame's kind and flag, shared by the reader and the writer.
 -- Assumes nothing.
-use mathlib.Core.Path.{_≡_}
-use mathlib.Core.Bool.{false, not}
-use mathlib.Core.Logic.{_⊎_, inl, inr}
+use mathlib.Core.Path.{_≡_, refl}
+use mathlib.Core.Bool.{Bool, true, false, not, false≢true}
+use mathlib.Core.Logic.{_⊎_, inl, inr, ⊎-elim}
 use Prim.Native.Nat.{ℕ}
-use lib.Dec.{eqb}
-use borrow.Author.Tests.{eqb-true, not-false}
+use native.Mathlib.Omega.{arith}
+use borrow.Author.Tests.{not-false}
 use Rattle.fields.specs.Kind.{INIT, ECHO}
-use Rattle.forms.specs.Frame.{badKind}
+use Rattle.forms.specs.Frame.{knownHead, Narrow}
+use Rattle.forms.specs.Table.{KnownHead, BadHead}
+use Rattle.forms.specs.declared.frame.Frame.{Frame}
+use Rattle.forms.proofs.Meaning.{Decides, head-says}
 
--- what the second half of the test tells where it fails
-pub echo-test : (kind : ℕ) → not (eqb kind ECHO) ≡ false → kind ≡ ECHO
-echo-test kind e = eqb-true kind ECHO (not-false (eqb kind ECHO) e)
+-- what a test that passes tells
+pub head-known : (kind flag : ℕ) → not (knownHead kind flag) ≡ false → KnownHead kind flag
+head-known kind flag e = head-says kind flag .0 (not-false (knownHead kind flag) e)
 
-pub known-kind : (kind : ℕ) → (kind ≡ INIT) ⊎ (kind ≡ ECHO) → badKind kind ≡ false
-known-kind kind (inl e) = rw e
-known-kind kind (inr e) = rw e
+-- and where it is not so that it fails
+pub settled-head : (kind flag : ℕ) → (BadHead kind flag → ⊥) → KnownHead kind flag
+settled-head kind flag h = go (knownHead kind flag) (head-says kind flag)
+  where
+    go : (t : Bool) → Decides t (KnownHead kind flag) → KnownHead kind flag
+    go true d = d .0 refl
+    go false d = absurd (h (λ k. false≢true (d .1 k)))
+
+-- the kind is init or echo
+pub head-kind : (kind flag : ℕ) → KnownHead kind flag → (kind ≡ INIT) ⊎ (kind ≡ ECHO)
+head-kind kind flag (inl h) = inl (h .0)
+head-kind kind flag (inr h) = inr (h .0)
+
+-- kind and flag are bytes
+pub head-narrow : (frame : Frame) → KnownHead (frame .kind) (frame .flag) → Narrow frame
+head-narrow frame (inl h) = record { kind = omega arith; flag = omega arith }
+head-narrow frame (inr h) = record { kind = omega arith; flag = ⊎-elim (λ e. omega arith) (λ e. omega arith) (h .1) }

@@ -7,11 +7,11 @@ use mathlib.Core.Logic.{_↔_, _≢_, _⊎_, inl, inr, Iff·trans, ⊎-map, ⊎-
 use mathlib.Core.Bool.{Bool, true, false, cond, not, _||_, _&&_, false≢true}
 use mathlib.Core.List.{List, [], _∷_, _++_, List·Memᴰ, List·Memᴰ·head, List·Memᴰ·tail, List·Memᴰ·cases-cons, Memᴰ·cast}
 use Prim.Native.Nat.{ℕ, zero, suc, _+_, _*_, _<_}
-use native.Mathlib.Decide.{decLt}
+use native.Mathlib.Decide.{decLt, ℕ-discrete}
 use native.Mathlib.Omega.{arith}
 use lib.ListN.{length, getD}
-use lib.Dec.{ltb, eqb, eqb·suc-zero}
-use borrow.Author.Tests.{ltb-true, lt-ltb, eqb-true, eqb-false, eq-eqb}
+use lib.Dec.{ltb, leb, eqb, eqb·suc-zero}
+use borrow.Author.Tests.{ltb-true, lt-ltb, leb-true, le-leb, eqb-true, eqb-false, eq-eqb}
 use Rattle.forms.specs.Number.{orElse}
 use Rattle.fields.specs.Field.{field}
 use Rattle.fields.specs.Kind.{INIT, ECHO}
@@ -19,8 +19,9 @@ use Rattle.forms.specs.Column.{count, twins}
 use Rattle.forms.specs.Roster.{mostLines, rosterNumber}
 use Rattle.forms.specs.Form.{serialsPlace, formSize, linesOf, faultsOf, ownOf, serialsOf, misplaced, formNumber}
 use Rattle.forms.specs.Form.{FormTold, formTold, WriteTold, writeTold, formWritten}
-use Rattle.forms.specs.Frame.{frameSize, badKind, misshapen, FrameTold, frameNumber, frameTold, frameWritten}
-use Rattle.forms.specs.Table.{_or_, Misplaced, HasZero, Twice, Beyond, BadKind, Misshapen}
+use Rattle.forms.specs.Frame.{frameSize, BROADCAST, ANSWER, knownHead, misshapen, FrameTold, frameNumber, frameTold, frameWritten}
+use Rattle.forms.specs.declared.frame.Frame.{Frame}
+use Rattle.forms.specs.Table.{_or_, Misplaced, HasZero, Twice, Beyond, KnownHead, BadHead, Misshapen}
 use Rattle.forms.specs.Table.{Check, _when_, Given, Says, rosterChecks, formChecks, frameChecks, roomCheck}
 use Rattle.fields.proofs.Words.{length-words}
 
@@ -205,8 +206,20 @@ form-then b {next} {checks} says fresh =
     (rw (length-words (linesOf b) 4 b serialsPlace) at
     (roster-then (faultsOf b) (ownOf b) (serialsOf b) says (fresh .1, fresh .2, fresh .3, fresh .4))))
 
-bad : (kind : ℕ) → Decides (badKind kind) (BadKind kind)
-bad kind = both _ _ (opposite _ (equal kind INIT)) (opposite _ (equal kind ECHO))
+upto : (flag : ℕ) → Decides (leb flag ANSWER) ((flag ≡ BROADCAST) or (flag ≡ ANSWER))
+upto flag = (
+  λ e. let p = leb-true flag ANSWER e in elim (ℕ-discrete flag BROADCAST) [ yes q ↦ inl q | no n ↦ inr (omega arith) ],
+  λ h. le-leb flag ANSWER (⊎-elim (λ e. omega arith) (λ e. omega arith) h),
+)
+
+-- kind and flag are known exactly where the paper knows them
+pub head-says : (kind flag : ℕ) → Decides (knownHead kind flag) (KnownHead kind flag)
+head-says kind flag =
+    either _ _ (both _ _ (equal kind INIT) (equal flag BROADCAST))
+    (both _ _ (equal kind ECHO) (upto flag))
+
+bad : (kind flag : ℕ) → Decides (not (knownHead kind flag)) (BadHead kind flag)
+bad kind flag = opposite _ (head-says kind flag)
 
 -- the frame reader tells `frameNumber`
 pub frame-told : (last : ℕ) (b : List ℕ) → frameTold last b .number ≡ frameNumber last b
@@ -225,9 +238,7 @@ frame-says last b =
 
     shape : Decides (misshapen b) (Misshapen b)
     shape =
-        either _ _
-        (either _ _ (either _ _ (either _ _ (opposite _ (equal (length b) frameSize)) (bad (getD b 0 0))) (is0 1)) (is0 2))
-        (is0 3)
+        either _ _ (either _ _ (either _ _ (opposite _ (equal (length b) frameSize)) (bad (getD b 0 0) (getD b 1 0))) (is0 2)) (is0 3)
 
 -- ---- the writers
 
@@ -252,12 +263,15 @@ pub form-writer-says : (f own : ℕ) (serials out : List ℕ) →
 unfolding formWritten
 form-writer-says f own serials out = rw write-number (roster-then f own serials (room (formSize (length serials)) out) (omega arith))
 
--- the frame writer's number is 10 for the kind, then 11, and 7 last
-pub frame-writer-says : (last kind tick : ℕ) (out : List ℕ) →
-    Says (frameWritten last kind tick out .number) (10 when BadKind kind ∷ 11 when (last < tick) ∷ roomCheck frameSize out ∷ [])
+-- the frame writer's number is 10 for kind and flag, then 11, and 7 last
+pub frame-writer-says : (last : ℕ) (frame : Frame) (out : List ℕ) →
+    Says (frameWritten last frame out .number)
+    (10 when BadHead (frame .kind) (frame .flag) ∷ 11 when (last < frame .tick) ∷ roomCheck frameSize out ∷ [])
 unfolding frameWritten
-frame-writer-says last kind tick out =
-    rw (write-number, past, past) (in-front 10 (bad kind) (omega arith) (in-front 11 (less last tick) (omega arith) (room frameSize out)))
+frame-writer-says last frame out =
+    rw (write-number, past, past)
+    (in-front 10 (bad (frame .kind) (frame .flag)) (omega arith)
+    (in-front 11 (less last (frame .tick)) (omega arith) (room frameSize out)))
 
 -- ---- single rows
 
@@ -269,6 +283,7 @@ row-4 f own serials = roster-says f own serials .exactly 4
 row-11 : (last : ℕ) (b : List ℕ) → (frameTold last b .number ≡ 11) ↔ ((Misshapen b → ⊥) × (last < field 4 b 4))
 row-11 last b = frame-says last b .exactly 11
 
-row-7 : (last kind tick : ℕ) (out : List ℕ) →
-    (frameWritten last kind tick out .number ≡ 7) ↔ ((BadKind kind → ⊥) × ((last < tick → ⊥) × (length out < frameSize)))
-row-7 last kind tick out = frame-writer-says last kind tick out .exactly 7
+row-7 : (last : ℕ) (frame : Frame) (out : List ℕ) →
+    (frameWritten last frame out .number ≡ 7)
+    ↔ ((BadHead (frame .kind) (frame .flag) → ⊥) × ((last < frame .tick → ⊥) × (length out < frameSize)))
+row-7 last frame out = frame-writer-says last frame out .exactly 7

@@ -16,18 +16,17 @@ use Rattle.fields.specs.Field.{field, putField, words, Bytes}
 use Rattle.forms.specs.Roster.{rosterNumber}
 use Rattle.forms.specs.Form.{serialsPlace, formSize, linesOf, faultsOf, ownOf, serialsOf, formNumber, formTold, serialOn}
 use Rattle.forms.specs.Form.{WriteTold, writeTold, putForm, formWritten}
-use Rattle.forms.specs.Frame.{frameSize, badKind, frameNumber, frameTold, putFrame, frameWritten, frameWriteNumber}
-use Rattle.forms.specs.Table.{Given, formChecks, frameChecks}
+use Rattle.forms.specs.Table.{Given, formChecks}
 use Rattle.fields.proofs.Fields.{field-byte, field-take, field-put, field-put-other, put-field, length-put, take-put, drop-put}
 use Rattle.fields.proofs.Words.{Words, length-words, words-same, length-putWords, field-putWords-before, words-putWords, putWords-words}
 use Rattle.fields.proofs.Words.{take-putWords, drop-putWords}
-use Rattle.forms.proofs.Meaning.{form-told, frame-told, form-says, frame-says, frame-writer-says}
+use Rattle.forms.proofs.Meaning.{form-told, form-says}
 use Rattle.forms.proofs.Rosters.{Limits, roster-limits}
 use Rattle.forms.proofs.Told.{form-length, form-roster}
 
 -- ---- what a writer answers
 
-settled : (a b : ℕ) → (a ≢ b → ⊥) → a ≡ b
+pub settled : (a b : ℕ) → (a ≢ b → ⊥) → a ≡ b
 settled a b h = elim (ℕ-discrete a b) [ yes e ↦ e | no n ↦ absurd (h n) ]
 
 module _ (number size : ℕ) (before after : List ℕ) where
@@ -246,127 +245,3 @@ form-written-again b out h e p =
 
     ok : formWritten (faultsOf b) (ownOf b) (serialsOf b) out .number ≡ 0
     ok = rw (form-roster b e, le-ltb (length out) (formSize (length (serialsOf b))) (omega (arith, size)))
-
--- ---- the frame
-
-module _ (out : List ℕ) (kind tick : ℕ) where
-  length-frame : length (putFrame out 0 kind tick) ≡ length out
-  unfolding putFrame
-  length-frame = simp length-put
-
-  drop-frame : drop frameSize (putFrame out 0 kind tick) ≡ drop frameSize out
-  unfolding putFrame
-  drop-frame =
-      drop-put 4 _ 4 tick frameSize (omega arith)
-      ∙ drop-put 3 _ 1 0 frameSize (omega arith)
-      ∙ drop-put 1 out 0 kind frameSize (omega arith)
-
-  take-frame : (b : List ℕ) → frameSize ≤ length out → frameSize ≤ length b →
-      take frameSize (putFrame out 0 kind tick) ≡ take frameSize (putFrame b 0 kind tick)
-  unfolding putFrame
-  take-frame b p q =
-      take-put 4 _ _ 4 tick (simp length-put (omega arith)) (simp length-put (omega arith))
-      (take-put 3 _ _ 1 0 (simp length-put (omega arith)) (simp length-put (omega arith))
-      (take-put 1 out b 0 kind (omega arith) (omega arith) refl))
-
--- the three bytes behind the kind
-zero-bytes : (b : List ℕ) → (field 3 b 1 ≡ 0) ↔ ((getD b 1 0 ≡ 0) × (getD b 2 0 ≡ 0) × (getD b 3 0 ≡ 0))
-unfolding field
-zero-bytes b = omega arith
-
--- a frame that the writer gave number 0
-module _ (last kind tick : ℕ) (out : List ℕ) (fits : tick < 2 ^ 32) (ok : frameWritten last kind tick out .number ≡ 0) where
-  frame : List ℕ
-  frame = take frameSize (putFrame out 0 kind tick)
-
-  sent :
-      (frameWriteNumber last kind tick ≡ 0) × (frameSize ≤ length out)
-      × (frameWritten last kind tick out ≡ record { number = 0; written = frameSize; out = putFrame out 0 kind tick })
-  unfolding frameWritten
-  sent = wrote (frameWriteNumber last kind tick) frameSize out (putFrame out 0 kind tick) ok
-
-  kind-back : getD frame 0 0 ≡ kind
-  unfolding frame putFrame
-  kind-back =
-      sym (field-byte frame 0)
-      ∙ field-take 1 frameSize _ 0 (omega arith)
-      ∙ field-put-other 1 4 _ 4 tick 0 (omega arith)
-      ∙ field-put-other 1 3 _ 1 0 0 (omega arith)
-      ∙ field-put 1 out 0 kind (omega (arith, sent .1)) small
-    where
-      small : kind < 256
-      small = elim (decLt kind 256) [ yes p ↦ p | no p ↦ absurd (frame-writer-says last kind tick out .exactly 0 .0 ok .0 (omega arith)) ]
-
-  zeros-back : field 3 frame 1 ≡ 0
-  unfolding frame putFrame
-  zeros-back =
-      field-take 3 frameSize _ 1 (omega arith)
-      ∙ field-put-other 3 4 _ 4 tick 1 (omega arith)
-      ∙ field-put 3 _ 1 0 (simp length-put (omega (arith, sent .1))) (omega arith)
-
-  tick-back : field 4 frame 4 ≡ tick
-  unfolding frame putFrame
-  tick-back = field-take 4 frameSize _ 4 (omega arith) ∙ field-put 4 _ 4 tick (simp length-put (sent .1)) fits
-
-  frame-number-back : frameNumber last frame ≡ 0
-  unfolding frameNumber frame
-  frame-number-back =
-      let zeros = zero-bytes frame .0 zeros-back in
-      cc (size, kind-back, zeros .0, zeros .1, zeros .2, tick-back, or-false (badKind kind), sent .0)
-    where
-      size : length frame ≡ frameSize
-      size = length-take-le frameSize (putFrame out 0 kind tick) (omega (arith, sent .1, length-frame out kind tick))
-
-  -- its bytes are read back with kind and tick
-  pub frame-read-back :
-      frameTold last (take frameSize (frameWritten last kind tick out .out)) ≡ record { number = 0; kind = kind; tick = tick }
-  unfolding frameTold frame
-  frame-read-back = rw (ap (λ (t : WriteTold). t .out) (sent .2)) (cc (frame-number-back, kind-back, tick-back))
-
--- bytes behind a frame stay, and so does the length, whatever the number
-pub frame-kept : (last kind tick : ℕ) (out : List ℕ) →
-    (drop frameSize (frameWritten last kind tick out .out) ≡ drop frameSize out)
-    × (length (frameWritten last kind tick out .out) ≡ length out)
-unfolding frameWritten
-frame-kept last kind tick out =
-    kept-bytes (frameWriteNumber last kind tick) frameSize out (putFrame out 0 kind tick)
-    (drop-frame out kind tick) (length-frame out kind tick)
-
--- a frame that is refused is not written at all
-pub frame-refused : (last kind tick : ℕ) (out : List ℕ) → (frameWritten last kind tick out .number ≡ 0 → ⊥) →
-    (frameWritten last kind tick out .written ≡ 0) × (frameWritten last kind tick out .out ≡ out)
-unfolding frameWritten
-frame-refused last kind tick out = refused-bytes (frameWriteNumber last kind tick) frameSize out (putFrame out 0 kind tick)
-
--- a frame that is taken, written over itself, stays
-frame-self : (b : List ℕ) → Bytes b → field 3 b 1 ≡ 0 → putFrame b 0 (getD b 0 0) (field 4 b 4) ≡ b
-unfolding putFrame
-frame-self b h e = cc (field-byte b 0, put-field 1 b 0 h, put-field 3 b 1 h, put-field 4 b 4 h)
-
--- what the frame reader took, the frame writer writes byte for byte, over the front of the output
-pub frame-written-again : (last : ℕ) (b out : List ℕ) → Bytes b → frameNumber last b ≡ 0 → length b ≤ length out →
-    frameWritten last (getD b 0 0) (field 4 b 4) out ≡ record { number = 0; written = length b; out = b ++ drop (length b) out }
-unfolding frameWritten
-frame-written-again last b out h e p =
-    wrote-bytes (frameWriteNumber last (getD b 0 0) (field 4 b 4)) frameSize out (putFrame out 0 (getD b 0 0) (field 4 b 4)) b ok size
-    (take-frame out (getD b 0 0) (field 4 b 4) b (omega (arith, size)) (omega (arith, size)) ∙ ap (take frameSize) (frame-self b h zeros))
-    (drop-frame out (getD b 0 0) (field 4 b 4))
-  where
-    g : Given (frameChecks last b) 0
-    g = frame-says last b .exactly 0 .0 (frame-told last b ∙ e)
-
-    size : length b ≡ frameSize
-    size = settled _ _ (λ n. g .0 (inl (inl (inl (inl n)))))
-
-    zeros : field 3 b 1 ≡ 0
-    zeros =
-        zero-bytes b .1 (
-          settled _ _ (λ n. g .0 (inl (inl (inr n)))),
-          settled _ _ (λ n. g .0 (inl (inr n))),
-          settled _ _ (λ n. g .0 (inr n)),
-        )
-
-    ok : frameWritten last (getD b 0 0) (field 4 b 4) out .number ≡ 0
-    ok =
-        frame-writer-says last (getD b 0 0) (field 4 b 4) out .exactly 0 .1
-        (λ k. g .0 (inl (inl (inl (inr k)))), (g .1 .0, (omega (arith, size), refl)))

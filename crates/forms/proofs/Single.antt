@@ -96,12 +96,12 @@ pub one-form : (a b : FormRead) → formBy a ≡ formBy b → a ≡ b
 one-form = one-answer formBy formOf form-read
 
 frameOf : FrameTold → FrameRead
-frameOf t = answerTo caseOf (frame.Taken (record { kind = t .kind; tick = t .tick })) frame.Refused (t .number)
+frameOf t = answerTo caseOf (frame.Taken (t .frame)) frame.Refused (t .number)
 
 frame-read : (a : FrameRead) → frameOf (frameBy a) ≡ a
 unfolding frameOf answerTo
 frame-read (frame.Taken x) = refl
-frame-read (frame.Refused why) = again (frame.Taken (record { kind = 0; tick = 0 })) frame.Refused why
+frame-read (frame.Refused why) = again (frame.Taken (record { kind = 0; flag = 0; tick = 0 })) frame.Refused why
 
 pub one-frame : (a b : FrameRead) → frameBy a ≡ frameBy b → a ≡ b
 one-frame = one-answer frameBy frameOf frame-read

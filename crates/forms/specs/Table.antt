@@ -11,7 +11,7 @@ use lib.Dec.{eqb}
 use Rattle.fields.specs.Field.{field}
 use Rattle.fields.specs.Kind.{INIT, ECHO}
 use Rattle.forms.specs.Form.{serialsPlace, formSize, linesOf, faultsOf, ownOf, serialsOf}
-use Rattle.forms.specs.Frame.{frameSize}
+use Rattle.forms.specs.Frame.{frameSize, BROADCAST, ANSWER}
 use Rattle.forms.specs.Roster.{mostLines}
 
 infixl 2 _or_
@@ -46,13 +46,17 @@ pub record Twice (serials : List ℕ) : Type 0 where
 abbrev pub Stranger : ℕ → List ℕ → Type 0
 Stranger own serials = List·Memᴰ own serials → ⊥
 
--- 10, of the writer: kind not 1 or 2
-abbrev pub BadKind : ℕ → Type 0
-BadKind kind = (kind ≢ INIT) × (kind ≢ ECHO)
+-- kind 1 with flag 0, or kind 2 with flag 0 or 1
+abbrev pub KnownHead : ℕ → ℕ → Type 0
+KnownHead kind flag = ((kind ≡ INIT) × (flag ≡ BROADCAST)) or ((kind ≡ ECHO) × ((flag ≡ BROADCAST) or (flag ≡ ANSWER)))
 
--- 10: not 8 long, kind not 1 or 2, or bytes 1..3 not zero
+-- 10, of the writer: kind not 1 or 2, or flag not 0 for init, not 0 or 1 for echo
+abbrev pub BadHead : ℕ → ℕ → Type 0
+BadHead kind flag = KnownHead kind flag → ⊥
+
+-- 10: not 8 long, kind or flag bad, or bytes 2 and 3 not zero
 abbrev pub Misshapen : List ℕ → Type 0
-Misshapen b = (length b ≢ frameSize) or BadKind (getD b 0 0) or (getD b 1 0 ≢ 0) or (getD b 2 0 ≢ 0) or (getD b 3 0 ≢ 0)
+Misshapen b = (length b ≢ frameSize) or BadHead (getD b 0 0) (getD b 1 0) or (getD b 2 0 ≢ 0) or (getD b 3 0 ≢ 0)
 
 -- ---- the first check that applies
 

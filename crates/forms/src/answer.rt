@@ -15,7 +15,7 @@ pub enum Refusal {
     Stranger,
     // output shorter than what would be written
     Room,
-    // frame not 8 long, kind not 1 or 2, or bytes 1..3 not zero
+    // frame not 8 long, kind not 1 or 2, byte 1 not 0 for init or above 1 for echo, or bytes 2 and 3 not zero
     Shape,
     // tick above the last tick
     Late,

@@ -6,23 +6,43 @@ use fields::field::word;
 use fields::kind::ECHO;
 use fields::kind::INIT;
 ghost use mathlib.Core.Path.{_≡_};
-ghost use Prim.Native.Nat.{_+_, _≤_, _<_};
+ghost use Prim.Native.Nat.{_+_, _≤_};
 ghost use lib.ListN.{length};
 ghost use Rattle.forms.specs.Form.{writtenBy};
-ghost use Rattle.forms.specs.Frame.{frameSize, toldBy, frameTold, putFrame, frameWritten};
+ghost use Rattle.forms.specs.Frame.{frameSize, knownHead, toldBy, frameTold, Narrow, putFrame, frameWritten};
 
 // Bytes of a frame.
 pub const FRAME: usize = 8;
 
-// A frame that is taken: its kind is INIT or ECHO.
+// The flag of a frame: 0 on what is sent to all, 1 on an answer.
+pub const BROADCAST: u32 = 0;
+
+pub const ANSWER: u32 = 1;
+
 pub struct Frame {
+    // INIT or ECHO
     pub kind: u32,
+    // BROADCAST, or ANSWER on an echo
+    pub flag: u32,
     pub tick: u32,
 }
 
 pub enum FrameRead {
     Taken(Frame),
     Refused(Refusal),
+}
+
+// Whether kind and flag go together: an init is a broadcast, an echo a broadcast or an answer.
+fn has_known_head(kind: u32, flag: u32) -> bool
+    ensures { λ r. ⌜ r ≡ knownHead kind flag ⌝ }
+{
+    if kind == INIT {
+        return flag == BROADCAST;
+    }
+    if kind == ECHO {
+        return flag <= ANSWER;
+    }
+    false
 }
 
 pub fn read_frame(b: &[u8], last: u32) -> FrameRead
@@ -32,40 +52,41 @@ pub fn read_frame(b: &[u8], last: u32) -> FrameRead
         return FrameRead::Refused(Refusal::Shape);
     }
     let kind = b[0] as u32;
-    if kind != INIT && kind != ECHO {
+    let flag = b[1] as u32;
+    if !has_known_head(kind, flag) {
         return FrameRead::Refused(Refusal::Shape);
     }
-    if b[1] != 0 || b[2] != 0 || b[3] != 0 {
+    if b[2] != 0 || b[3] != 0 {
         return FrameRead::Refused(Refusal::Shape);
     }
     let tick = word(b, 4);
     if last < tick {
         return FrameRead::Refused(Refusal::Late);
     }
-    FrameRead::Taken(Frame { kind, tick })
+    FrameRead::Taken(Frame { kind, flag, tick })
 }
 
-// Writes a frame over the bytes from i on: a joint, for writers that have judged kind, tick and room.
-pub fn put_frame(out: &mut [u8], i: usize, kind: u32, tick: u32)
-    requires { ⌜ (i + frameSize ≤ length (now out)) × (kind < 256) ⌝ }
-    ensures { λ _. ⌜ now (out .exit) ≡ putFrame (now (out .entry)) i kind tick ⌝ }
+// Writes a frame over the bytes from i on: a joint, for writers that have judged kind, flag, tick and room.
+pub fn put_frame(out: &mut [u8], i: usize, frame: Frame)
+    requires { ⌜ (i + frameSize ≤ length (now out)) × Narrow frame ⌝ }
+    ensures { λ _. ⌜ now (out .exit) ≡ putFrame (now (out .entry)) i frame ⌝ }
 {
-    put_word(out, i, kind * 16777216);
-    put_word(out, i + 4, tick);
+    put_word(out, i, frame.kind * 16777216 + frame.flag * 65536);
+    put_word(out, i + 4, frame.tick);
 }
 
-pub fn write_frame(kind: u32, tick: u32, last: u32, out: &mut [u8]) -> Written
-    ensures { λ r. ⌜ writtenBy r (now (out .exit)) ≡ frameWritten last kind tick (now (out .entry)) ⌝ }
+pub fn write_frame(frame: Frame, last: u32, out: &mut [u8]) -> Written
+    ensures { λ r. ⌜ writtenBy r (now (out .exit)) ≡ frameWritten last frame (now (out .entry)) ⌝ }
 {
-    if kind != INIT && kind != ECHO {
+    if !has_known_head(frame.kind, frame.flag) {
         return Written::NotWritten(Refusal::Shape);
     }
-    if last < tick {
+    if last < frame.tick {
         return Written::NotWritten(Refusal::Late);
     }
     if out.len() < FRAME {
         return Written::NotWritten(Refusal::Room);
     }
-    put_frame(out, 0, kind, tick);
+    put_frame(out, 0, frame);
     Written::Wrote(FRAME)
 }

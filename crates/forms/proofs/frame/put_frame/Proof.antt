@@ -1,34 +1,54 @@
--- `frame::put_frame` meets its contract: its two stores are the kind with three zero bytes, which are one word, and the tick.
+-- `frame::put_frame` meets its contract: its two stores are kind, flag and two zero bytes, which are one word, and the tick.
 -- Assumes nothing.
 use borrow.Author.Needs.{needs}
-use mathlib.Core.Path.{_≡_, ap, ap₂, _∙_, sym}
+use mathlib.Core.Path.{_≡_, ap, _∙_, sym}
 use mathlib.Core.List.{List}
-use Prim.Native.Nat.{ℕ, _+_, _*_, _/_, _%_}
+use Prim.Native.Nat.{ℕ, _+_, _*_, _/_, _%_, _^_}
 use native.Mathlib.Omega.{arith}
 use denote.Ref.{now}
 use Rattle.fields.specs.Field.{putField}
-use Rattle.forms.specs.Frame.{putFrame}
+use Rattle.forms.specs.Frame.{Narrow, putFrame}
+use Rattle.forms.specs.declared.frame.Frame.{Frame}
 use Rattle.fields.proofs.Fields.{put-mod, put-join}
 use Rattle.forms.proofs.frame.put_frame.Statement.{statement}
 use Rattle.forms.proofs.frame.put_frame.Tie as tie
 
--- the kind and three zero bytes are one word
-put-kind : (out : List ℕ) (i kind : ℕ) → putField 4 out i (kind * 16777216) ≡ putField 3 (putField 1 out i kind) (i + 1) 0
-put-kind out i kind =
-    let high : kind * 16777216 / 16777216 ≡ kind = omega arith in
-    let low : kind * 16777216 % 16777216 ≡ 0 = omega arith in
-    put-join 1 3 out i (kind * 16777216)
-    ∙ sym (put-mod 3 (putField 1 out i (kind * 16777216 / 16777216)) (i + 1) (kind * 16777216))
-    ∙ ap₂ (λ (x y : ℕ). putField 3 (putField 1 out i x) (i + 1) y) high low
+-- kind, flag and two zero bytes are one word
+put-head :
+    (out : List ℕ) (i : ℕ) (frame : Frame)
+    → Narrow frame
+    → let word = frame .kind * 16777216 + frame .flag * 65536 in
+    putField 4 out i word ≡ putField 2 (putField 1 (putField 1 out i (frame .kind)) (i + 1) (frame .flag)) (i + 2) 0
+put-head out i frame narrow =
+    let word = frame .kind * 16777216 + frame .flag * 65536 in
+    let kind : word / 65536 / 256 ≡ frame .kind = omega arith in
+    let flag : word / 65536 % 256 ≡ frame .flag = omega arith in
+    let zeros : word % 65536 ≡ 0 = omega arith in
+    put-join 2 2 out i word
+    ∙ ap (λ (b : List ℕ). putField 2 b (i + 2) word)
+    (put-join 1 1 out i (word / 65536)
+    ∙ ap (λ (k : ℕ). putField 1 (putField 1 out i k) (i + 1) (word / 65536)) kind
+    ∙ low 1 (putField 1 out i (frame .kind)) (i + 1) (word / 65536) (frame .flag) flag)
+    ∙ low 2 (putField 1 (putField 1 out i (frame .kind)) (i + 1) (frame .flag)) (i + 2) word 0 zeros
+  where
+    -- a store takes of a number what its bytes hold
+    low : (w : ℕ) (b : List ℕ) (j v r : ℕ) → v % 256 ^ w ≡ r → putField w b j v ≡ putField w b j r
+    low w b j v r e = sym (put-mod w b j v) ∙ ap (putField w b j) e
 
 mul-put-word : tie.Need-mul-put-word
 mul-put-word c = search needs
 
-put-word-requires : tie.Need-put-word-requires
-put-word-requires c κs = search needs
+mul-put-word-2 : tie.Need-mul-put-word-2
+mul-put-word-2 c = search needs
 
 add-put-word : tie.Need-add-put-word
 add-put-word c = search needs
+
+put-word-requires : tie.Need-put-word-requires
+put-word-requires c κs = search needs
+
+add-put-word-2 : tie.Need-add-put-word-2
+add-put-word-2 c = search needs
 
 put-word-requires-2 : tie.Need-put-word-requires-2
 put-word-requires-2 c κs = search needs
@@ -39,12 +59,20 @@ same-length c = search needs
 returns : tie.Need-returns
 unfolding putFrame
 returns c =
-    let a = c .before .before .before .before .before .before .before .before .before .args in
+    let entry = c .before .before .before .before .before .before .before .before .before .before .before in
     c .before .before .put-word2 .ensures
-    ∙ ap (λ (out : List ℕ). putField 4 out (a .i + 4) (a .tick))
-    (c .before .before .before .before .before .before .put-word .ensures ∙ put-kind (now (a .out)) (a .i) (a .kind))
+    ∙ ap (λ (out : List ℕ). putField 4 out (entry .args .i + 4) (entry .args .frame .tick))
+    (c .before .before .before .before .before .before .put-word .ensures ∙ put-head (now (entry .args .out)) (entry .args .i) (entry .args .frame) (entry .pre .1))
 
 pub put-frame-spec : {M : Type 1} → statement M
 put-frame-spec =
     tie.close
-    (tie.spec mul-put-word put-word-requires add-put-word put-word-requires-2 same-length returns)
+    (tie.spec
+    mul-put-word
+    mul-put-word-2
+    add-put-word
+    put-word-requires
+    add-put-word-2
+    put-word-requires-2
+    same-length
+    returns)

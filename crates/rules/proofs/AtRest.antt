@@ -11,11 +11,12 @@ use Prim.Native.Nat.{ℕ, zero, suc, _+_, _-_, _*_, _≤_, _<_, min, max}
 use native.Mathlib.Decide.{decLe}
 use native.Mathlib.Omega.{arith}
 use Rattle.fields.specs.Kind.{ECHO}
+use Rattle.forms.specs.declared.frame.Frame.{Frame}
 use Rattle.evidence.specs.Rows.{Row, credit}
 use Rattle.evidence.specs.Holders.{holders, greatest}
 use Rattle.evidence.proofs.Greatest.{greatest-held, greatest-most, greatest-none}
 use Rattle.evidence.proofs.Growth.{added-near, holders-less}
-use Rattle.rules.specs.Delivery.{State, settled, delivered}
+use Rattle.rules.specs.Delivery.{State, credited, settled, delivered}
 use Rattle.rules.specs.Describe.{mostFirings}
 use Rattle.rules.specs.Rules.{jumpTo, firstRule, atRest, fired, Settled, still, settle}
 use Rattle.rules.specs.declared.node.Node.{Node}
@@ -244,16 +245,16 @@ calm-after w last s port kind j wide e t p q = near (decLe t j) (decLe j (t + 2)
 
 -- no rule can fire after a delivery to a node at rest, and at most 13 did
 pub delivered-rests :
-    (w last : ℕ) (s : State) (port kind j : ℕ)
+    (w last : ℕ) (s : State) (port : ℕ) (frame : Frame)
     → 0 < w
     → 2 * s .node .faults + 1 ≤ s .node .lines
     → firstRule w last (s .rows) (s .node) ≡ Rest
-    → let d = delivered w last s port kind j in
+    → let d = delivered w last s port frame in
     (firstRule w last (d .state .rows) (d .state .node) ≡ Rest) × (d .firings ≤ 13)
 unfolding delivered settled
-delivered-rests w last s port kind j wide many rest =
-    let rows = credit w port kind j (s .rows) in
-    let most = potential-most w rows (s .node .tick) j (s .node) in
-    let calm = calm-after w last s port kind j wide rest in
-    let r = comes-to-rest w last (s .node .tick) j rows mostFirings (s .node) calm many (omega arith) (omega arith) in
+delivered-rests w last s port frame wide many rest =
+    let rows = credited w s port frame in
+    let most = potential-most w rows (s .node .tick) (frame .tick) (s .node) in
+    let calm = calm-after w last s port (frame .kind) (frame .tick) wide rest in
+    let r = comes-to-rest w last (s .node .tick) (frame .tick) rows mostFirings (s .node) calm many (omega arith) (omega arith) in
     (r .0, omega arith)

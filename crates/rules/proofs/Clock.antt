@@ -5,11 +5,12 @@ use mathlib.Core.List.{List}
 use Prim.Native.Nat.{ℕ, _+_, _≤_, _<_}
 use native.Mathlib.Omega.{arith}
 use Rattle.fields.specs.Kind.{INIT, ECHO}
+use Rattle.forms.specs.declared.frame.Frame.{Frame}
 use Rattle.evidence.specs.Rows.{Row, credit}
 use Rattle.evidence.proofs.Greatest.{greatest-held}
 use Rattle.evidence.proofs.Growth.{AllKept, credit-kept, held-bounded}
 use Rattle.rules.specs.Clock.{InOrder, Ordered}
-use Rattle.rules.specs.Delivery.{State, settled, delivered}
+use Rattle.rules.specs.Delivery.{State, credited, settled, delivered}
 use Rattle.rules.specs.Describe.{mostFirings}
 use Rattle.rules.specs.Rules.{firstRule, fired, settle}
 use Rattle.rules.specs.declared.node.Node.{Node}
@@ -39,8 +40,8 @@ module _ (w last : ℕ) (rows : List Row) (sets : AllKept w last rows) where
       omega arith)
 
 -- 003's own words: k never falls, active stays active, and the roster stays
-module _ (w last : ℕ) (s : State) (port kind j : ℕ) (wide : 0 < w) (sets : AllKept w last (s .rows)) (late : j ≤ last) where
-  pub delivered-ordered : InOrder last (s .node) → Ordered last (s .node) (delivered w last s port kind j .state .node)
+module _ (w last : ℕ) (s : State) (port : ℕ) (frame : Frame) (wide : 0 < w) (sets : AllKept w last (s .rows)) (late : frame .tick ≤ last) where
+  pub delivered-ordered : InOrder last (s .node) → Ordered last (s .node) (delivered w last s port frame .state .node)
   unfolding delivered settled
   delivered-ordered =
-      settle-ordered w last (credit w port kind j (s .rows)) (credit-kept w last port kind j (s .rows) wide late sets) mostFirings (s .node)
+      settle-ordered w last (credited w s port frame) (credit-kept w last port (frame .kind) (frame .tick) (s .rows) wide late sets) mostFirings (s .node)

@@ -27,8 +27,9 @@ getD-putRecord-after : (out : List ℕ) (i : ℕ) (r : Outgoing) (j : ℕ) →
     getD (putRecord out i r) j 0 ≡ getD out j 0
 unfolding putRecord putFrame
 getD-putRecord-after out i r j p =
-    getD-put-other 4 _ (i + 4 + 4) _ j (λ k q e. omega arith) ∙ getD-put-other 3 _ (i + 4 + 1) _ j (λ k q e. omega arith)
-    ∙ getD-put-other 1 _ (i + 4) _ j (λ k q e. omega arith) ∙ getD-put-other 4 _ i _ j (λ k q e. omega arith)
+    getD-put-other 4 _ (i + 4 + 4) _ j (λ k q e. omega arith) ∙ getD-put-other 2 _ (i + 4 + 2) _ j (λ k q e. omega arith)
+    ∙ getD-put-other 1 _ (i + 4 + 1) _ j (λ k q e. omega arith) ∙ getD-put-other 1 _ (i + 4) _ j (λ k q e. omega arith)
+    ∙ getD-put-other 4 _ i _ j (λ k q e. omega arith)
 
 -- a byte behind the records
 pub getD-putRecords-after : (out : List ℕ) (i : ℕ) (rs : List Outgoing) (j : ℕ) →

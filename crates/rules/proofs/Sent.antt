@@ -7,12 +7,13 @@ use native.Mathlib.Omega.{arith}
 use lib.ListN.{length, length-append}
 use lib.Dec.{ltb, eqb}
 use Rattle.fields.specs.Kind.{ECHO}
+use Rattle.forms.specs.declared.frame.Frame.{Frame}
 use Rattle.evidence.specs.Rows.{Row, credit}
 use Rattle.evidence.proofs.Growth.{AllKept, credit-kept}
 use Rattle.rules.specs.Clock.{InOrder, Below}
-use Rattle.rules.specs.Delivery.{State, answer, settled, delivered}
+use Rattle.rules.specs.Delivery.{State, asks, answer, credited, settled, delivered}
 use Rattle.rules.specs.Describe.{mostFirings}
-use Rattle.rules.specs.Record.{Outgoing, broadcast}
+use Rattle.rules.specs.Record.{Outgoing, broadcast, answerTo}
 use Rattle.rules.specs.Rules.{firstRule, woken, fired, said, settle}
 use Rattle.rules.specs.declared.node.Node.{Node}
 use Rattle.rules.specs.declared.node.Rule.{Rule}
@@ -22,13 +23,12 @@ use Rattle.rules.proofs.Firing.{told, one-or-none, said-few, settle-ind
 
 -- the answer is the last echo sent, or none
 answered :
-    (Q : List Outgoing → Type 0) (p : Node) (port kind j : ℕ)
-    → Q (record { dest = port; kind = ECHO; tick = p .sent } ∷ [])
+    (Q : List Outgoing → Type 0) (p : Node) (port : ℕ) (frame : Frame)
+    → Q (answerTo port (p .sent) ∷ [])
     → Q []
-    → Q (answer p port kind j)
+    → Q (answer p port frame)
 unfolding answer
-answered Q p port kind j =
-    one-or-none Q (eqb kind ECHO && (eqb j 0 && not (eqb port (p .own)))) (record { dest = port; kind = ECHO; tick = p .sent })
+answered Q p port frame = one-or-none Q (asks frame && not (eqb port (p .own))) (answerTo port (p .sent))
 
 -- ---- how many
 
@@ -41,16 +41,16 @@ settle-few w last rows =
     omega (arith, said-few p rule, length-append (said p rule) (settle w last rows c (fired p rule) .records)))
 
 pub delivered-few :
-    (w last : ℕ) (s : State) (port kind j : ℕ)
-    → let d = delivered w last s port kind j in
+    (w last : ℕ) (s : State) (port : ℕ) (frame : Frame)
+    → let d = delivered w last s port frame in
     length (d .records) ≤ d .firings + 1
 unfolding delivered settled
-delivered-few w last s port kind j =
+delivered-few w last s port frame =
     omega (
       arith,
-      length-append (answer (s .node) port kind j) (settle w last (credit w port kind j (s .rows)) mostFirings (s .node) .records),
-      answered (λ l. length l ≤ 1) (s .node) port kind j (omega arith) (omega arith),
-      settle-few w last (credit w port kind j (s .rows)) mostFirings (s .node),
+      length-append (answer (s .node) port frame) (settle w last (credited w s port frame) mostFirings (s .node) .records),
+      answered (λ l. length l ≤ 1) (s .node) port frame (omega arith) (omega arith),
+      settle-few w last (credited w s port frame) mostFirings (s .node),
     )
 
 -- ---- no record carries a tick above k after the delivery
@@ -85,14 +85,14 @@ module _ (w last : ℕ) (rows : List Row) (sets : AllKept w last rows) where
       below-append (next .node .tick) (said p rule) (next .records)
       (below-more (fired p rule .tick) (next .node .tick) (said p rule) (rest .later) (said-below p rule)) (ih order))
 
-module _ (w last : ℕ) (s : State) (port kind j : ℕ) (wide : 0 < w) (sets : AllKept w last (s .rows)) (late : j ≤ last) where
-  pub delivered-below : InOrder last (s .node) → let d = delivered w last s port kind j in Below (d .state .node .tick) (d .records)
+module _ (w last : ℕ) (s : State) (port : ℕ) (frame : Frame) (wide : 0 < w) (sets : AllKept w last (s .rows)) (late : frame .tick ≤ last) where
+  pub delivered-below : InOrder last (s .node) → let d = delivered w last s port frame in Below (d .state .node .tick) (d .records)
   unfolding delivered settled
   delivered-below order =
-      let rows = credit w port kind j (s .rows) in
-      let kept = credit-kept w last port kind j (s .rows) wide late sets in
+      let rows = credited w s port frame in
+      let kept = credit-kept w last port (frame .kind) (frame .tick) (s .rows) wide late sets in
       let next = settle w last rows mostFirings (s .node) in
       let after = settle-ordered w last rows kept mostFirings (s .node) order in
-      below-append (next .node .tick) (answer (s .node) port kind j) (next .records)
-      (answered (Below (next .node .tick)) (s .node) port kind j (omega arith, tt) tt)
+      below-append (next .node .tick) (answer (s .node) port frame) (next .records)
+      (answered (Below (next .node .tick)) (s .node) port frame (omega arith, tt) tt)
       (settle-below w last rows kept mostFirings (s .node) order)

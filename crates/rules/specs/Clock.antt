@@ -1,8 +1,8 @@
 -- The clock in 003's own words: what the rules keep of it, whatever is delivered. Theorems speak of these.
 use Prim.Native.Nat.{ℕ, _≤_}
 use mathlib.Core.Path.{_≡_}
-use mathlib.Core.List.{List, [], _∷_}
-use Rattle.rules.specs.Record.{Outgoing}
+use mathlib.Core.List.{List}
+use Rattle.rules.specs.Record.{Outgoing, Every}
 use Rattle.rules.specs.declared.node.Node.{Node}
 
 -- a clock in order
@@ -24,5 +24,4 @@ pub record Ordered (last : ℕ) (p q : Node) : Type 0 where
 
 -- no record carries a tick above k
 abbrev pub Below : ℕ → List Outgoing → Type 0
-Below k [] = Unit {0}
-Below k (r ∷ rs) = (r .tick ≤ k) × Below k rs
+Below k rs = Every (λ r. r .frame .tick ≤ k) rs

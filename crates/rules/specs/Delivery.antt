@@ -1,12 +1,14 @@
--- One delivery (01): a node and its rows, a port and a frame; the node that follows, with its records.
+-- One delivery (01, and 02, A2): a node and its rows, a port and a frame; the node that follows, with its records.
 use Prim.Native.Nat.{ℕ}
 use mathlib.Core.List.{List, [], _∷_, _++_}
-use mathlib.Core.Bool.{cond, not, _&&_}
+use mathlib.Core.Bool.{Bool, cond, not, _&&_}
 use lib.Dec.{eqb}
 use Rattle.fields.specs.Kind.{ECHO}
+use Rattle.forms.specs.Frame.{BROADCAST}
+use Rattle.forms.specs.declared.frame.Frame.{Frame}
 use Rattle.evidence.specs.Rows.{Row, credit}
 use Rattle.rules.specs.Describe.{mostFirings}
-use Rattle.rules.specs.Record.{Outgoing}
+use Rattle.rules.specs.Record.{Outgoing, answerTo}
 use Rattle.rules.specs.Rules.{Settled, settle}
 use Rattle.rules.specs.declared.node.Node.{Node}
 
@@ -20,19 +22,26 @@ pub record Delivered : Type 0 where
   pub records : List Outgoing
   pub firings : ℕ
 
--- step 2: (echo, 0) of another serial draws an answer to that serial alone, with the last echo sent before this delivery
-unfoldable pub answer : Node → ℕ → ℕ → ℕ → List Outgoing
-answer p port kind tick =
-    cond (eqb kind ECHO && (eqb tick 0 && not (eqb port (p .own)))) (record { dest = port; kind = ECHO; tick = p .sent } ∷ []) []
+-- (echo, 0) without the flag asks for an answer; an answer is never answered (02, A2)
+abbrev pub asks : Frame → Bool
+asks frame = eqb (frame .kind) ECHO && (eqb (frame .tick) 0 && eqb (frame .flag) BROADCAST)
+
+-- step 2: another serial that asks draws an answer to that serial alone, with the last echo sent before this delivery
+unfoldable pub answer : Node → ℕ → Frame → List Outgoing
+answer p port frame = cond (asks frame && not (eqb port (p .own))) (answerTo port (p .sent) ∷ []) []
+
+-- step 1: evidence does not look at the flag
+abbrev pub credited : ℕ → State → ℕ → Frame → List Row
+credited w s port frame = credit w port (frame .kind) (frame .tick) (s .rows)
 
 -- step 3 over the evidence after step 1
-unfoldable pub settled : ℕ → ℕ → State → ℕ → ℕ → ℕ → Settled
-settled w last s port kind tick = settle w last (credit w port kind tick (s .rows)) mostFirings (s .node)
+unfoldable pub settled : ℕ → ℕ → State → ℕ → Frame → Settled
+settled w last s port frame = settle w last (credited w s port frame) mostFirings (s .node)
 
-unfoldable pub delivered : ℕ → ℕ → State → ℕ → ℕ → ℕ → Delivered
-delivered w last s port kind tick =
+unfoldable pub delivered : ℕ → ℕ → State → ℕ → Frame → Delivered
+delivered w last s port frame =
     record {
-      state = record { node = settled w last s port kind tick .node; rows = credit w port kind tick (s .rows) };
-      records = answer (s .node) port kind tick ++ settled w last s port kind tick .records;
-      firings = settled w last s port kind tick .firings;
+      state = record { node = settled w last s port frame .node; rows = credited w s port frame };
+      records = answer (s .node) port frame ++ settled w last s port frame .records;
+      firings = settled w last s port frame .firings;
     }

@@ -1,3 +1,4 @@
+pub mod Answering
 pub mod Clock
 pub mod Delivery
 pub mod Describe

@@ -2,11 +2,14 @@
 // looked at where it lies, so a node costs six words of stack however many rows there are. The methods but `new` are joints
 // between layers: the caller has checked that the rows lie inside the buffer and that there is room for all records.
 use crate::record::RECORD;
+use crate::record::put_broadcast;
 use crate::record::put_record;
 use evidence::rows::count_holders;
 use evidence::rows::credit_row;
 use fields::kind::ECHO;
 use fields::kind::INIT;
+use forms::frame::ANSWER;
+use forms::frame::BROADCAST;
 use forms::frame::Frame;
 use search::greatest::find_greatest;
 ghost use mathlib.Core.Path.{_≡_};
@@ -15,7 +18,7 @@ ghost use lib.ListN.{length};
 ghost use Rattle.rules.specs.Describe.{window, lastTick, mostFirings, freshNode};
 ghost use Rattle.rules.specs.Record.{recordSize};
 ghost use Rattle.rules.specs.Rules.{canR3, firstRule, atRest, woken, fired, said, settle};
-ghost use Rattle.rules.specs.Delivery.{answer, delivered};
+ghost use Rattle.rules.specs.Delivery.{asks, answer, delivered};
 ghost use Rattle.rules.specs.Steps.{rowsFrom, stateFrom, RowsIn, canEcho, jumpOrWake, CanFire};
 ghost use Rattle.rules.specs.Steps.{SentAs, CanSettle, SettledAs, CanDeliver, DeliveredAs};
 
@@ -54,6 +57,19 @@ pub struct Node {
 pub struct Next {
     pub node: Node,
     pub records: usize,
+}
+
+// Whether a frame asks for an answer: (echo, 0) without the flag. An answer is never answered.
+fn asks_answer(frame: Frame) -> bool
+    ensures { λ r. ⌜ r ≡ asks frame ⌝ }
+{
+    if frame.kind != ECHO {
+        return false;
+    }
+    if frame.tick != 0 {
+        return false;
+    }
+    frame.flag == BROADCAST
 }
 
 fn greater(a: u32, b: u32) -> u32
@@ -203,21 +219,21 @@ impl Node {
         match rule {
             Rule::Rest => records,
             Rule::Echo => {
-                put_record(out, RECORD * records, 0, ECHO, self.tick);
+                put_broadcast(out, RECORD * records, ECHO, self.tick);
                 records + 1
             }
             Rule::Tick => {
-                put_record(out, RECORD * records, 0, INIT, self.tick + 1);
+                put_broadcast(out, RECORD * records, INIT, self.tick + 1);
                 records + 1
             }
             Rule::Jump(l) => {
-                put_record(out, RECORD * records, 0, ECHO, l - 1);
+                put_broadcast(out, RECORD * records, ECHO, l - 1);
                 records + 1
             }
             Rule::Wake(x) => {
                 let k = self.woken(x);
                 if self.sent < k {
-                    put_record(out, RECORD * records, 0, ECHO, k);
+                    put_broadcast(out, RECORD * records, ECHO, k);
                     return records + 1;
                 }
                 records
@@ -246,17 +262,20 @@ impl Node {
         Next { node, records }
     }
 
-    // The answer to (echo, 0) of another serial: the last echo sent before this delivery.
+    // The answer to another serial that asks for one: the last echo sent before this delivery.
     fn answer(self, port: u32, frame: Frame, out: &mut [u8]) -> usize
         requires { ⌜ recordSize ≤ length (now out) ⌝ }
-        ensures { λ r. ⌜ SentAs 1 (answer self port (frame .kind) (frame .tick)) 0 (now (out .entry)) r (now (out .exit)) ⌝ }
+        ensures { λ r. ⌜ SentAs 1 (answer self port frame) 0 (now (out .entry)) r (now (out .exit)) ⌝ }
     {
-        if frame.kind == ECHO {
-            if frame.tick == 0 {
-                if port != self.own {
-                    put_record(out, 0, port, ECHO, self.sent);
-                    return 1;
-                }
+        if asks_answer(frame) {
+            if port != self.own {
+                let echo = Frame {
+                    kind: ECHO,
+                    flag: ANSWER,
+                    tick: self.sent,
+                };
+                put_record(out, 0, port, echo);
+                return 1;
             }
         }
         0
@@ -265,7 +284,7 @@ impl Node {
     // One delivery: the frame is credited to the port's row, answered where it asks for that, and the rules fire.
     pub fn deliver(self, b: &mut [u8], i: usize, port: u32, frame: Frame, out: &mut [u8]) -> Next
         requires { ⌜ CanDeliver self (now b) i port (now out) ⌝ }
-        ensures { λ r. ⌜ DeliveredAs (delivered window lastTick (stateFrom self (now (b .entry)) i) port (frame .kind) (frame .tick))
+        ensures { λ r. ⌜ DeliveredAs (delivered window lastTick (stateFrom self (now (b .entry)) i) port frame)
             (now (b .entry)) i (now (out .entry)) r (now (b .exit)) (now (out .exit)) ⌝ }
     {
         let n = self.lines as usize;

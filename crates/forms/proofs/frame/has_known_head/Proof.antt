@@ -1,6 +1,6 @@
 -- `frame::has_known_head` meets its contract: the three cases of the kind.
 -- Assumes nothing.
-use mathlib.Core.Path.{_≡_, sym}
+use mathlib.Core.Path.{_≡_, refl, sym}
 use mathlib.Core.Bool.{or-false}
 use lib.Dec.{eqb}
 use borrow.Author.Tests.{eq-eqb, ne-eqb}
@@ -13,7 +13,7 @@ returns : tie.Need-returns
 returns c = rw (c .if1 .taken) (sym (or-false (eqb (c .before .args .flag) BROADCAST)))
 
 returns-2 : tie.Need-returns-2
-returns-2 c = rw (c .if2 .taken)
+returns-2 c = rw (c .if2 .taken) refl
 
 returns-3 : tie.Need-returns-3
 returns-3 c =

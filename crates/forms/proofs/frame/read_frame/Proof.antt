@@ -1,7 +1,7 @@
 -- `frame::read_frame` meets its contract: each test that fails is one case of the frame's number.
 -- Assumes nothing.
 use borrow.Author.Needs.{needs}
-use mathlib.Core.Path.{_≡_, sym, _∙_}
+use mathlib.Core.Path.{_≡_, refl, sym, _∙_}
 use mathlib.Core.Bool.{true, false, not}
 use mathlib.Core.Logic.{⊎-elim}
 use native.Mathlib.Omega.{arith}
@@ -85,7 +85,7 @@ returns-5 : tie.Need-returns-5
 unfolding frameTold frameNumber
 returns-5 c =
     let a = c .before .before .before .before .before .before .before .before .before .before .before .before .args in
-    rw (shaped (c .before .before), le-ltb (a .last) (field 4 (now (a .b)) 4) (omega arith), c .before .word .ensures)
+    rw (shaped (c .before .before), le-ltb (a .last) (field 4 (now (a .b)) 4) (omega arith), c .before .word .ensures) refl
 
 pub read-frame-spec : {M : Type 1} → statement M
 read-frame-spec =

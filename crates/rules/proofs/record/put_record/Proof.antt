@@ -27,7 +27,7 @@ returns c =
     let words = c .before .before .before .before .before .before in
     let a = words .before .before .before .args in
     c .before .before .put-frame .ensures
-    ∙ ap (λ (out : List ℕ). putFrame out (a .i + 4) (a .kind) (a .tick)) (words .put-word .ensures)
+    ∙ ap (λ (out : List ℕ). putFrame out (a .i + 4) (a .frame)) (words .put-word .ensures)
 
 pub put-record-spec : {M : Type 1} → statement M
 put-record-spec =

@@ -9,10 +9,11 @@ use denote.Ref.{now}
 use lib.ListN.{length}
 use Rattle.fields.specs.Field.{words}
 use Rattle.forms.specs.Column.{count}
+use Rattle.forms.specs.declared.frame.Frame.{Frame}
 use Rattle.sets.specs.Sets.{maskBytes, maskBits}
 use Rattle.evidence.specs.Rows.{putRows, credit}
 use Rattle.evidence.proofs.Encoded.{credit-read-back}
-use Rattle.rules.specs.Delivery.{State, answer, settled, delivered}
+use Rattle.rules.specs.Delivery.{State, answer, credited, settled, delivered}
 use Rattle.rules.specs.Describe.{window, lastTick}
 use Rattle.rules.specs.Steps.{rowsFrom, stateFrom, SentAs, SettledAs, DeliveredAs}
 use Rattle.rules.specs.declared.node.Next.{Next}
@@ -48,33 +49,33 @@ stored : (c : tie.After-credit-row) →
 stored c = c .credit-row .ensures
 
 -- the rows that the credit left
-credited : (c : tie.After-credit-row) →
+kept : (c : tie.After-credit-row) →
     let a = c .before .before .before .before .before .args in
     let rows = credit window (a .port) (a .frame .kind) (a .frame .tick) (rowsFrom (a .self) (now (a .b)) (a .i)) in
     rowsFrom (a .self) (c .credit-row .last .0) (a .i) ≡ rows
-credited c =
+kept c =
     let start = c .before .before .before .before .before in
     let a = start .args in
     rw (stored c)
     (credit-read-back maskBytes maskBits window refl (omega arith) (omega arith) (a .port) (a .frame .kind) (a .frame .tick)
-    (a .self .lines) (now (a .b)) (a .i) (λ k. c .before .before .before .before .slice-known .given k .fits) (omega arith)
+    (a .self .lines) (now (a .b)) (a .i) (λ k. c .before .before .before .before .slice-known .given k .fits) (omega (arith, start .good .1 .1 .1 .1 .0))
     (start .pre .rows .inside))
 
 -- the count of answers is the delivery's
 answered : (c : tie.After-answer) →
     let a = c .before .before .before .before .before .before .before .before .before .args in
-    c .answer .result ≡ 0 + length (answer (a .self) (a .port) (a .frame .kind) (a .frame .tick))
+    c .answer .result ≡ 0 + length (answer (a .self) (a .port) (a .frame))
 answered c = omega arith
 
 -- a credit, an answer and settling are a delivery
 delivers :
-    (s : State) (port kind tick : ℕ) {b : List ℕ} {i : ℕ} {out mid after image : List ℕ} {start : ℕ} {r : Next}
-    → image ≡ putRows maskBytes b i (credit window port kind tick (s .rows))
-    → SentAs 1 (answer (s .node) port kind tick) 0 out start mid
-    → SettledAs (settled window lastTick s port kind tick) start mid r after
-    → DeliveredAs (delivered window lastTick s port kind tick) b i out r image after
+    (s : State) (port : ℕ) (frame : Frame) {b : List ℕ} {i : ℕ} {out mid after image : List ℕ} {start : ℕ} {r : Next}
+    → image ≡ putRows maskBytes b i (credited window s port frame)
+    → SentAs 1 (answer (s .node) port frame) 0 out start mid
+    → SettledAs (settled window lastTick s port frame) start mid r after
+    → DeliveredAs (delivered window lastTick s port frame) b i out r image after
 unfolding delivered
-delivers s port kind tick rows first h =
+delivers s port frame rows first h =
     let all = sent-then first (h .sent) in
     record { node = h .node; rows = rows; records = omega (arith, all .records); few = omega (arith, all .few); bytes = all .bytes }
 
@@ -85,9 +86,9 @@ returns c =
     let credits = answers .before .before .before .before in
     let a = credits .before .before .before .before .before .args in
     let sent = answers .answer .ensures in
-    delivers (stateFrom (a .self) (now (a .b)) (a .i)) (a .port) (a .frame .kind) (a .frame .tick) (stored credits)
+    delivers (stateFrom (a .self) (now (a .b)) (a .i)) (a .port) (a .frame) (stored credits)
     (record { records = answered answers; few = sent .few; bytes = sent .bytes })
-    (rw (credited credits) at (c .before .before .settle .ensures))
+    (rw (kept credits) at (c .before .before .settle .ensures))
 
 pub deliver-spec : {M : Type 1} → statement M
 deliver-spec =

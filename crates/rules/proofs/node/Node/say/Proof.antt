@@ -14,11 +14,11 @@ enum-told c = search needs
 enum-told-2 : tie.Need-enum-told-2
 enum-told-2 c = search needs
 
-mul-put-record : tie.Need-mul-put-record
-mul-put-record c = search needs
+mul-put-broadcast : tie.Need-mul-put-broadcast
+mul-put-broadcast c = search needs
 
-put-record-requires : tie.Need-put-record-requires
-put-record-requires c κs = search needs
+put-broadcast-requires : tie.Need-put-broadcast-requires
+put-broadcast-requires c κs = search needs
 
 add-result : tie.Need-add-result
 add-result c = search needs
@@ -26,14 +26,14 @@ add-result c = search needs
 enum-told-3 : tie.Need-enum-told-3
 enum-told-3 c = search needs
 
-mul-put-record-2 : tie.Need-mul-put-record-2
-mul-put-record-2 c = search needs
+mul-put-broadcast-2 : tie.Need-mul-put-broadcast-2
+mul-put-broadcast-2 c = search needs
 
-add-put-record : tie.Need-add-put-record
-add-put-record c = omega (arith, rw (c .before .before .enum-told3 .given .1) at (c .before .before .before .before .before .pre .0))
+add-put-broadcast : tie.Need-add-put-broadcast
+add-put-broadcast c = omega (arith, rw (c .before .before .enum-told3 .given .1) at (c .before .before .before .before .before .pre .0))
 
-put-record-requires-2 : tie.Need-put-record-requires-2
-put-record-requires-2 c κs = search needs
+put-broadcast-requires-2 : tie.Need-put-broadcast-requires-2
+put-broadcast-requires-2 c κs = search needs
 
 add-result-2 : tie.Need-add-result-2
 add-result-2 c = search needs
@@ -41,14 +41,14 @@ add-result-2 c = search needs
 enum-known-rule : tie.Need-enum-known-rule
 enum-known-rule c = search needs
 
-mul-put-record-3 : tie.Need-mul-put-record-3
-mul-put-record-3 c = search needs
+mul-put-broadcast-3 : tie.Need-mul-put-broadcast-3
+mul-put-broadcast-3 c = search needs
 
-sub-put-record : tie.Need-sub-put-record
-sub-put-record c = omega (arith, rw (c .before .before .rule .given .1) at (c .before .before .before .before .before .pre .0))
+sub-put-broadcast : tie.Need-sub-put-broadcast
+sub-put-broadcast c = omega (arith, rw (c .before .before .rule .given .1) at (c .before .before .before .before .before .pre .0))
 
-put-record-requires-3 : tie.Need-put-record-requires-3
-put-record-requires-3 c κs = search needs
+put-broadcast-requires-3 : tie.Need-put-broadcast-requires-3
+put-broadcast-requires-3 c κs = search needs
 
 add-result-3 : tie.Need-add-result-3
 add-result-3 c = search needs
@@ -59,11 +59,11 @@ enum-known-rule-2 c = search needs
 woken-requires : tie.Need-woken-requires
 woken-requires c κs = search needs
 
-mul-put-record-4 : tie.Need-mul-put-record-4
-mul-put-record-4 c = search needs
+mul-put-broadcast-4 : tie.Need-mul-put-broadcast-4
+mul-put-broadcast-4 c = search needs
 
-put-record-requires-4 : tie.Need-put-record-requires-4
-put-record-requires-4 c κs = search needs
+put-broadcast-requires-4 : tie.Need-put-broadcast-requires-4
+put-broadcast-requires-4 c κs = search needs
 
 add-result-4 : tie.Need-add-result-4
 add-result-4 c = search needs
@@ -78,7 +78,7 @@ returns c =
     let p = woke .before .before .before .before .before .args .self in
     let unsent = c .before .before .before .before .if1 .taken in
     rw (woke .before .before .rule2 .given .1, ← woke .woken .ensures, lt-ltb (p .sent) (woke .woken .result) unsent)
-    (sent-one (c .before .before .put-record4 .ensures))
+    (sent-one (c .before .before .put-broadcast4 .ensures))
 
 returns-2 : tie.Need-returns-2
 unfolding said
@@ -89,21 +89,21 @@ same-length-2 c = search needs
 
 returns-3 : tie.Need-returns-3
 unfolding said
-returns-3 c = rw (c .before .before .before .before .enum-told2 .given .1) (sent-one (c .before .before .put-record .ensures))
+returns-3 c = rw (c .before .before .before .before .enum-told2 .given .1) (sent-one (c .before .before .put-broadcast .ensures))
 
 same-length-3 : tie.Need-same-length-3
 same-length-3 c = search needs
 
 returns-4 : tie.Need-returns-4
 unfolding said
-returns-4 c = rw (c .before .before .before .before .before .enum-told3 .given .1) (sent-one (c .before .before .put-record2 .ensures))
+returns-4 c = rw (c .before .before .before .before .before .enum-told3 .given .1) (sent-one (c .before .before .put-broadcast2 .ensures))
 
 same-length-4 : tie.Need-same-length-4
 same-length-4 c = search needs
 
 returns-5 : tie.Need-returns-5
 unfolding said
-returns-5 c = rw (c .before .before .before .before .before .rule .given .1) (sent-one (c .before .before .put-record3 .ensures))
+returns-5 c = rw (c .before .before .before .before .before .rule .given .1) (sent-one (c .before .before .put-broadcast3 .ensures))
 
 returns-6 : tie.Need-returns-6
 unfolding said
@@ -118,23 +118,23 @@ say-spec =
     (tie.spec
     enum-told
     enum-told-2
-    mul-put-record
-    put-record-requires
+    mul-put-broadcast
+    put-broadcast-requires
     add-result
     enum-told-3
-    mul-put-record-2
-    add-put-record
-    put-record-requires-2
+    mul-put-broadcast-2
+    add-put-broadcast
+    put-broadcast-requires-2
     add-result-2
     enum-known-rule
-    mul-put-record-3
-    sub-put-record
-    put-record-requires-3
+    mul-put-broadcast-3
+    sub-put-broadcast
+    put-broadcast-requires-3
     add-result-3
     enum-known-rule-2
     woken-requires
-    mul-put-record-4
-    put-record-requires-4
+    mul-put-broadcast-4
+    put-broadcast-requires-4
     add-result-4
     same-length
     returns

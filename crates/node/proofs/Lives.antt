@@ -11,10 +11,12 @@ use lib.ListN.{length, getD}
 use lib.Dec.{lit<, lit≤}
 use Rattle.fields.specs.Field.{field, Bytes}
 use Rattle.forms.specs.Form.{Reordered, formNumber}
+use Rattle.forms.specs.Frame.{frameAt}
+use Rattle.forms.specs.declared.frame.Frame.{Frame}
 use Rattle.forms.proofs.Order.{count-order, byte-same, front-same, form-number-order, serials-order}
 use Rattle.evidence.specs.Rows.{Row}
 use Rattle.evidence.proofs.Layouts.{serials-of-rows}
-use Rattle.node.specs.Calls.{Outcome, outcome, bootNumber, freshState, booted, deliverNumber, deliveryOf, deliverOutcome}
+use Rattle.node.specs.Calls.{Outcome, outcome, bootNumber, freshState, booted, portNumber, deliverNumber, deliveryOf, deliverOutcome}
 use Rattle.node.specs.Calls.{Reading, readNumber, reading}
 use Rattle.rules.specs.Delivery.{State, Delivered, delivered}
 use Rattle.rules.specs.Describe.{freshNode, freshRows}
@@ -59,7 +61,7 @@ module _ (L : Layout) (last : ℕ) (a b : List ℕ) (h : Pair L last a b) where
       (Permᴰ·map (λ (row : Row). row .serial) (h .same .rows))
 
   same-number : (port : ℕ) (frame : List ℕ) (n : ℕ) → deliverNumber L last a port frame n ≡ deliverNumber L last b port frame n
-  unfolding deliverNumber
+  unfolding deliverNumber portNumber
   same-number port frame n = rw (h .first, h .second, count-order port serials)
 
   same-reading : reading L last a ≡ reading L last b
@@ -133,16 +135,16 @@ module _ (L : Layout) (last : ℕ) where
 
 -- the deliveries of matched states match, and send the same records
 deliveries :
-    (w last : ℕ) (s t : State) (port kind j : ℕ)
+    (w last : ℕ) (s t : State) (port : ℕ) (frame : Frame)
     → Matched s t
-    → let x = delivered w last s port kind j in
-    let y = delivered w last t port kind j in
+    → let x = delivered w last s port frame in
+    let y = delivered w last t port frame in
     Matched (x .state) (y .state) × (x .records ≡ y .records)
-deliveries w last s t port kind j m =
-    let x = delivered w last s port kind j in
-    let o = delivery-order w last (s .node) port kind j (m .rows) in
+deliveries w last s t port frame m =
+    let x = delivered w last s port frame in
+    let o = delivery-order w last (s .node) port frame (m .rows) in
     subst (λ (y : Delivered). Matched (x .state) (y .state) × (x .records ≡ y .records))
-    (ap (λ (p : Node). delivered w last (record { node = p; rows = t .rows }) port kind j) (m .node))
+    (ap (λ (p : Node). delivered w last (record { node = p; rows = t .rows }) port frame) (m .node))
     (record { node = o .0; rows = o .2 }, o .1)
 
 module _ (L : Layout) (last : ℕ) (works : Works L) (small : last < tickCount) where
@@ -156,7 +158,7 @@ module _ (L : Layout) (last : ℕ) (works : Works L) (small : last < tickCount) 
       (λ e.
       let x = delivery-sound L last works small a port frame (length out) (h .bytes₁) e in
       let y = delivery-sound L last works small b port frame (length out) (h .bytes₂) (sym number ∙ e) in
-      let m = deliveries (L .window) last (stateOf L a) (stateOf L b) port (getD frame 0 0) (field 4 frame 4) (h .same) in
+      let m = deliveries (L .window) last (stateOf L a) (stateOf L b) port (frameAt frame 0) (h .same) in
       record {
         number = refl;
         records = ap (λ (l : List Outgoing). length l) (m .1);

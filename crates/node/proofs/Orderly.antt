@@ -8,6 +8,7 @@ use Prim.Native.Nat.{ℕ, suc, _+_, _-_}
 use native.Mathlib.Omega.{arith}
 use lib.Dec.{ltb, leb, eqb}
 use Rattle.fields.specs.Kind.{INIT, ECHO}
+use Rattle.forms.specs.declared.frame.Frame.{Frame}
 use Rattle.sets.specs.Ticks.{holds}
 use Rattle.evidence.specs.Rows.{Row, setOf}
 use Rattle.evidence.proofs.Orders.{joined-order, holders-order, greatest-order, credit-order}
@@ -39,16 +40,16 @@ module _ (w last : ℕ) {rows others : List Row} (order : List·Permᴰ rows oth
 
 -- what a delivery leaves and sends: the same node and records, and rows in the same order as before
 pub delivery-order :
-    (w last : ℕ) (p : Node) {rows others : List Row} (port kind j : ℕ)
+    (w last : ℕ) (p : Node) {rows others : List Row} (port : ℕ) (frame : Frame)
     → List·Permᴰ rows others
-    → let one = delivered w last (record { node = p; rows = rows }) port kind j in
-    let other = delivered w last (record { node = p; rows = others }) port kind j in
+    → let one = delivered w last (record { node = p; rows = rows }) port frame in
+    let other = delivered w last (record { node = p; rows = others }) port frame in
     (one .state .node ≡ other .state .node) × (one .records ≡ other .records) × List·Permᴰ (one .state .rows) (other .state .rows)
 unfolding delivered settled
-delivery-order w last p port kind j order =
-    let after = credit-order w port kind j order in
+delivery-order w last p port frame order =
+    let after = credit-order w port (frame .kind) (frame .tick) order in
     let s = settle-order w last after mostFirings p in
-    (ap (λ (x : Settled). x .node) s, ap (λ (x : Settled). answer p port kind j ++ x .records) s, after)
+    (ap (λ (x : Settled). x .node) s, ap (λ (x : Settled). answer p port frame ++ x .records) s, after)
 
 -- ---- evidence under a serial
 

@@ -11,6 +11,8 @@ use lib.Dec.{lit<, lit≤}
 use Rattle.fields.specs.Field.{field, Bytes}
 use native.Mathlib.Nat.{one-le-pow}
 use Rattle.forms.specs.Form.{linesOf, faultsOf, ownOf, serialsPlace, serialsOf}
+use Rattle.forms.specs.Frame.{frameAt}
+use Rattle.forms.specs.declared.frame.Frame.{Frame}
 use Rattle.forms.proofs.Told.{form-roster}
 use Rattle.fields.proofs.Fields.{field-lt}
 use Rattle.fields.proofs.Words.{Words, length-words, words-words}
@@ -75,11 +77,8 @@ module _
   abbrev start : State
   start = stateOf L image
 
-  abbrev kind : ℕ
-  kind = getD frame 0 0
-
-  abbrev tick : ℕ
-  tick = field 4 frame 4
+  abbrev told : Frame
+  told = frameAt frame 0
 
   abbrev d : Delivered
   d = deliveryOf L last image port frame
@@ -90,7 +89,7 @@ module _
   before : SoundBytes L last image
   before = sound-bytes L last image (taken .sound)
 
-  late : tick ≤ last
+  late : told .tick ≤ last
   late = frame-whole last frame (taken .shape) .tick
 
   count : start .node .lines ≡ length (start .rows)
@@ -100,7 +99,7 @@ module _
   -- its clock stays in order
   pub delivery-ordered : Ordered last (start .node) (d .state .node)
   unfolding deliveryOf
-  delivery-ordered = ordered-after (L .window) last start port kind tick (works .wide) count (before .node) late
+  delivery-ordered = ordered-after (L .window) last start port told (works .wide) count (before .node) late
 
   node-fits : NodeFits (d .state .node)
   unfolding stateOf nodeOf
@@ -121,10 +120,10 @@ module _
       record {
         node = node-fits;
         rows =
-            credit-fits (L .masks) (works .bits) (L .window) (works .masks) (works .wide) (works .narrow) port kind tick
+            credit-fits (L .masks) (works .bits) (L .window) (works .masks) (works .wide) (works .narrow) port (told .kind) (told .tick)
             (rowsOf L image) (omega (arith, late)) (rows-fit (L .masks) (getD image 0 0) image headerSize bytes);
         count =
-            length-credit (L .masks) (works .bits) (L .window) (works .masks) (works .wide) (works .narrow) port kind tick
+            length-credit (L .masks) (works .bits) (L .window) (works .masks) (works .wide) (works .narrow) port (told .kind) (told .tick)
             (rowsOf L image) ∙ sym count ∙ sym (delivery-ordered .lines);
         room = rw (delivery-ordered .lines) (rows-inside L image (before .fixed) (before .stated));
       }
@@ -135,22 +134,22 @@ module _
   delivery-sound =
       let o = delivery-ordered in
       let wrote = delivery-read-back L image d fits (o .lines) (o .faults) (o .own) (fixed-facts L image (before .fixed)) in
-      let sound = sound-after (L .window) last start port kind tick (works .wide) count (before .node) late in
+      let sound = sound-after (L .window) last start port told (works .wide) count (before .node) late in
       record { sound = written-sound L last image (d .state) _ sound fits wrote; state = wrote .state; size = wrote .size }
 
   -- it comes to rest soon
   pub delivery-firings : d .firings ≤ 13
   unfolding deliveryOf
-  delivery-firings = rest-after (L .window) last start port kind tick (works .wide) count (before .node) .1
+  delivery-firings = rest-after (L .window) last start port told (works .wide) count (before .node) .1
 
   pub delivery-records : length (d .records) ≤ 14
   unfolding deliveryOf
-  delivery-records = records-few (L .window) last start port kind tick (works .wide) count (before .node)
+  delivery-records = records-few (L .window) last start port told (works .wide) count (before .node)
 
   -- and says no tick above its clock
   pub delivery-below : Below (d .state .node .tick) (d .records)
   unfolding deliveryOf
-  delivery-below = records-below (L .window) last start port kind tick (works .wide) (before .node) late
+  delivery-below = records-below (L .window) last start port told (works .wide) (before .node) late
 
 -- ---- boot
 

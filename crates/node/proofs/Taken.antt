@@ -6,7 +6,7 @@ use mathlib.Core.Bool.{Bool, true, false, cond}
 use mathlib.Core.Logic.{_⊎_, inl, inr}
 use mathlib.Core.List.{List}
 use Prim.Native.Nat.{ℕ, _≤_, _<_}
-use native.Mathlib.Decide.{decLe, ℕ-discrete}
+use native.Mathlib.Decide.{decLe}
 use native.Mathlib.Omega.{arith}
 use lib.ListN.{length, getD}
 use lib.Dec.{ltb, eqb, lit<}
@@ -14,7 +14,11 @@ use borrow.Author.Tests.{ltb-false, eqb-false}
 use Rattle.fields.specs.Field.{field}
 use Rattle.fields.specs.Kind.{INIT, ECHO}
 use Rattle.forms.specs.Form.{serialsPlace, linesOf, faultsOf, ownOf, formNumber, FormTold, formTold, toldBy}
-use Rattle.forms.specs.Frame.{frameSize, frameNumber}
+use Rattle.forms.specs.Frame.{frameSize, frameAt, frameNumber, FrameTold, frameTold}
+use Rattle.forms.specs.Frame.{toldBy as frameBy}
+use Rattle.forms.specs.declared.frame.Frame.{Frame}
+use Rattle.forms.specs.declared.frame.FrameRead.{FrameRead}
+use Rattle.forms.specs.declared.frame.FrameRead.the-variants.{Taken as TakenFrame, Refused as RefusedFrame}
 use Rattle.forms.specs.Number.{numberOf}
 use Rattle.forms.specs.Column.{count}
 use Rattle.forms.specs.declared.answer.Refusal.{Refusal}
@@ -22,10 +26,12 @@ use Rattle.forms.specs.declared.form.Form.{Form}
 use Rattle.forms.specs.declared.form.FormRead.{FormRead}
 use Rattle.forms.specs.declared.form.FormRead.the-variants.{Taken as TakenForm}
 use Rattle.forms.proofs.Meaning.{frame-told, frame-says}
+use Rattle.forms.proofs.Frames.{settled-head, head-kind}
 use Rattle.forms.proofs.Rosters.{Limits}
+use Rattle.forms.proofs.RoundTrip.{settled}
 use Rattle.forms.proofs.Told.{refusal, told-taken, form-taken, form-roster, none-given, first-given}
 use Rattle.rules.specs.Describe.{room}
-use Rattle.node.specs.Calls.{bootNumber, deliverNumber}
+use Rattle.node.specs.Calls.{bootNumber, portNumber, deliverNumber}
 use Rattle.node.specs.Image.{Layout, imageSize, rosterIn, soundImage}
 use Rattle.node.proofs.Sound.{roster-lines}
 
@@ -96,16 +102,31 @@ pub frame-whole : (last : ℕ) (b : List ℕ) → frameNumber last b ≡ 0 → W
 frame-whole last b z =
     let given = frame-says last b .exactly 0 .0 (frame-told last b ∙ z) in
     record {
-      size = elim (ℕ-discrete (length b) frameSize) [ yes e ↦ e | no ne ↦ absurd (given .0 (inl (inl (inl (inl ne))))) ];
-      kind = elim (ℕ-discrete (getD b 0 0) INIT) [
-        | yes e ↦ inl e
-        | no ni ↦ elim (ℕ-discrete (getD b 0 0) ECHO) [
-          | yes e ↦ inr e
-          | no ne ↦ absurd (given .0 (inl (inl (inl (inr (ni, ne))))))
-        ]
-      ];
+      size = settled _ _ (λ n. given .0 (inl (inl (inl n))));
+      kind = head-kind _ _ (settled-head _ _ (λ n. given .0 (inl (inl (inr n)))));
       tick = elim (decLe (field 4 b 4) last) [ yes p ↦ p | no np ↦ absurd (given .1 .0 (omega arith)) ];
     }
+
+-- what is told of a frame that is refused: its number
+pub told-misshapen :
+    (last : ℕ) (b : List ℕ) (read : FrameRead) (why : Refusal)
+    → frameBy read ≡ frameTold last b
+    → read ≡ RefusedFrame why
+    → frameNumber last b ≡ numberOf why
+told-misshapen last b read why told e =
+    sym (frame-told last b) ∙ ap (λ (t : FrameTold). t .number) (sym told) ∙ ap (λ (r : FrameRead). frameBy r .number) e
+
+-- and of one that is taken: its number is 0, and it is the frame of the bytes
+pub told-frame :
+    (last : ℕ) (b : List ℕ) (read : FrameRead) (frame : Frame)
+    → frameBy read ≡ frameTold last b
+    → read ≡ TakenFrame frame
+    → (frameNumber last b ≡ 0) × (frame ≡ frameAt b 0)
+unfolding frameTold
+told-frame last b read frame told e =
+    let said : _≡_ {A = FrameTold} (record { number = 0; frame = frame }) (frameTold last b) = ap frameBy (sym e) ∙ told in
+    let z : frameNumber last b ≡ 0 = sym (frame-told last b) ∙ ap (λ (t : FrameTold). t .number) (sym said) in
+    (z, ap (λ (t : FrameTold). t .frame) (rw z at said))
 
 pub record Taken (L : Layout) (last : ℕ) (image : List ℕ) (port : ℕ) (frame : List ℕ) (outLength : ℕ) : Type 0 where
   pub space : room ≤ outLength
@@ -117,9 +138,10 @@ pub deliver-taken :
     (L : Layout) (last : ℕ) (image : List ℕ) (port : ℕ) (frame : List ℕ) (outLength : ℕ)
     → deliverNumber L last image port frame outLength ≡ 0
     → Taken L last image port frame outLength
-unfolding deliverNumber
+unfolding deliverNumber portNumber
 deliver-taken L last image port frame outLength e =
-    let space = passed (ltb outLength room) 7 _ (lit< tt) e in
+    let parts = none-given (portNumber L last image port outLength) (frameNumber last frame) e in
+    let space = passed (ltb outLength room) 7 _ (lit< tt) (parts .0) in
     let sound = past-image (soundImage L last image) _ (space .1) in
     let listed = passed (eqb (count port (rosterIn L image)) 0) 9 _ (lit< tt) (sound .1) in
-    record { space = ltb-false _ _ (space .0); sound = sound .0; listed = eqb-false _ 0 (listed .0); shape = listed .1 }
+    record { space = ltb-false _ _ (space .0); sound = sound .0; listed = eqb-false _ 0 (listed .0); shape = parts .1 }

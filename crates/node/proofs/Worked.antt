@@ -1,6 +1,6 @@
--- 01's settled examples W1 to W10, about the definitions of the calls: one table, one claim. A form is booted and frames are delivered
--- one after the other, all as bytes, and each line says the number given back, the bytes of the records sent, k and mode; the last
--- two say what 22 holds after echo 69, and after echo 70 instead.
+-- 01's settled examples W1 to W10, about the definitions of the calls, with the flag of 02's A2: the answers of W3 and W4 carry it. One
+-- table, one claim. A form is booted and frames are delivered one after the other, all as bytes, and each line says the number given
+-- back, the bytes of the records sent, k and mode; the last two say what 22 holds after echo 69, and after echo 70 instead.
 -- Assumes nothing.
 use mathlib.Core.Path.{_≡_, refl}
 use mathlib.Core.List.{List, [], _∷_}
@@ -9,7 +9,7 @@ use lib.ListN.{take, replicate}
 use Rattle.fields.specs.Kind.{INIT, ECHO}
 use Rattle.fields.specs.Field.{field, putField, words}
 use Rattle.forms.specs.Form.{formNumber}
-use Rattle.forms.specs.Frame.{frameNumber, putFrame}
+use Rattle.forms.specs.Frame.{BROADCAST, ANSWER, frameNumber, putFrame}
 use Rattle.forms.specs.Column.{count, twins}
 use Rattle.forms.specs.Roster.{rosterNumber}
 use Rattle.sets.specs.Ticks.{Held, bit, raised, marked, holds, insert, insertAll, run, added, add, proper}
@@ -20,7 +20,8 @@ use Rattle.rules.specs.Describe.{window, lastTick, room, freshRows}
 use Rattle.rules.specs.Record.{recordSize, putRecord, putRecords}
 use Rattle.rules.specs.Rules.{firstRule, fired, said, firing, settle}
 use Rattle.rules.specs.Delivery.{answer, settled, delivered}
-use Rattle.node.specs.Calls.{Outcome, bootNumber, freshState, booted, deliverNumber, deliveryOf, imageAfter, deliverOutcome}
+use Rattle.node.specs.Calls.{Outcome, bootNumber, freshState, booted, portNumber, deliverNumber, deliveryOf, imageAfter}
+use Rattle.node.specs.Calls.{deliverOutcome}
 use Rattle.node.specs.Image.{layout, imageSize, nodeOf, rowsOf, stateOf, putClock, putFixed, putNode, putState}
 use Rattle.node.specs.Image.{fixedHeader, soundState, soundImage}
 
@@ -33,15 +34,15 @@ word low more = 0 ∷ 0 ∷ 0 ∷ low ∷ more
 abbrev form : List ℕ
 form = 4 ∷ 1 ∷ 0 ∷ 8 ∷ word 11 (word 11 (word 22 (word 33 (word 44 []))))
 
-abbrev frame : ℕ → ℕ → List ℕ → List ℕ
-frame kind tick more = kind ∷ 0 ∷ 0 ∷ 0 ∷ word tick more
+abbrev frame : ℕ → ℕ → ℕ → List ℕ → List ℕ
+frame kind flag tick more = kind ∷ flag ∷ 0 ∷ 0 ∷ word tick more
 
--- a record to one serial, or to all
-abbrev to : ℕ → ℕ → ℕ → List ℕ → List ℕ
-to dest kind tick more = word dest (frame kind tick more)
+-- an answer goes to one serial, with the flag; a broadcast to all, without it
+abbrev answers : ℕ → ℕ → List ℕ → List ℕ
+answers dest tick more = word dest (frame ECHO ANSWER tick more)
 
 abbrev all : ℕ → ℕ → List ℕ → List ℕ
-all kind tick more = to 0 kind tick more
+all kind tick more = word 0 (frame kind BROADCAST tick more)
 
 -- ---- the play
 
@@ -50,10 +51,10 @@ record Event : Type 0 where
   frame : List ℕ
 
 abbrev echo : ℕ → ℕ → Event
-echo port tick = record { port = port; frame = frame ECHO tick [] }
+echo port tick = record { port = port; frame = frame ECHO BROADCAST tick [] }
 
 abbrev init : ℕ → ℕ → Event
-init port tick = record { port = port; frame = frame INIT tick [] }
+init port tick = record { port = port; frame = frame INIT BROADCAST tick [] }
 
 -- what a line of the table says
 record Line : Type 0 where
@@ -130,8 +131,8 @@ settled-examples :
           -- W1 to W4
           line (all ECHO 0 []) 0 0
           ∷ line [] 0 0
-          ∷ line (to 22 ECHO 0 []) 0 0
-          ∷ line (to 33 ECHO 0 (all INIT 1 [])) 1 0
+          ∷ line (answers 22 0 []) 0 0
+          ∷ line (answers 33 0 (all INIT 1 [])) 1 0
           -- W5, W6
           ∷ line [] 1 0
           ∷ line (all ECHO 1 []) 1 1
@@ -146,7 +147,7 @@ settled-examples :
       with-69 = 69 ∷ 68 ∷ 67 ∷ 6 ∷ [];
       with-70 = 70 ∷ 69 ∷ 68 ∷ [];
     }
-unfolding turned onwards ticksBelow play booted bootNumber freshState deliverOutcome deliverNumber deliveryOf imageAfter formNumber
+unfolding turned onwards ticksBelow play booted bootNumber freshState deliverOutcome portNumber deliverNumber deliveryOf imageAfter formNumber
     frameNumber rosterNumber count twins soundImage soundState fixedHeader stateOf nodeOf putState putNode putFixed putClock
     freshRows field putField words putFrame putRecord putRecords rowsAt rowAt setAt putRows putRow putSet properRows properSet
     proper delivered settled answer settle firing firstRule fired said credit creditOf creditRow setOf holders heldUnder greatest

@@ -7,7 +7,7 @@ use lib.ListN.{length, getD}
 use lib.Dec.{ltb, eqb}
 use Rattle.fields.specs.Field.{field}
 use Rattle.forms.specs.Form.{linesOf, faultsOf, ownOf, serialsOf, formNumber}
-use Rattle.forms.specs.Frame.{frameNumber}
+use Rattle.forms.specs.Frame.{frameAt, frameNumber}
 use Rattle.forms.specs.Number.{orElse}
 use Rattle.forms.specs.Column.{count}
 use Rattle.evidence.specs.Rows.{putRows}
@@ -50,17 +50,19 @@ unfoldable pub booted : Layout → List ℕ → List ℕ → List ℕ → Outcom
 booted L form image out =
     outcome (bootNumber L form (length image) (length out)) image out (bootDone L form image out)
 
--- ---- deliver: 7, 8, 9, then 10 and 11 of the frame
+-- ---- deliver: 7, 8, 9 of room, image and port, then 10 and 11 of the frame
+
+unfoldable pub portNumber : Layout → ℕ → List ℕ → ℕ → ℕ → ℕ
+portNumber L last image port outLength =
+    cond (ltb outLength room) 7
+    (cond (soundImage L last image) (cond (eqb (count port (rosterIn L image)) 0) 9 0) 8)
 
 unfoldable pub deliverNumber : Layout → ℕ → List ℕ → ℕ → List ℕ → ℕ → ℕ
-deliverNumber L last image port frame outLength =
-    cond (ltb outLength room) 7
-    (cond (soundImage L last image)
-    (cond (eqb (count port (rosterIn L image)) 0) 9 (frameNumber last frame)) 8)
+deliverNumber L last image port frame outLength = orElse (portNumber L last image port outLength) (frameNumber last frame)
 
 -- the delivery of a frame that is taken
 unfoldable pub deliveryOf : Layout → ℕ → List ℕ → ℕ → List ℕ → Delivered
-deliveryOf L last image port frame = delivered (L .window) last (stateOf L image) port (getD frame 0 0) (field 4 frame 4)
+deliveryOf L last image port frame = delivered (L .window) last (stateOf L image) port (frameAt frame 0)
 
 -- it changes only k, mode, last echo and the port's row
 unfoldable pub imageAfter : Layout → List ℕ → Delivered → List ℕ

@@ -15,14 +15,13 @@ use forms::column::count_word;
 use forms::form::Form;
 use forms::form::FormRead;
 use forms::form::read_form;
-use forms::frame::Frame;
 use forms::frame::FrameRead;
 use forms::frame::read_frame;
 use rules::node::Node;
-use rules::record::put_record;
+use rules::record::put_broadcast;
 ghost use mathlib.Core.Path.{_≡_};
 ghost use Rattle.node.specs.Answers.{outcomeBy, readingBy};
-ghost use Rattle.node.specs.Calls.{booted, deliverNumber, deliverOutcome, reading};
+ghost use Rattle.node.specs.Calls.{booted, portNumber, deliverOutcome, reading};
 ghost use Rattle.rules.specs.Describe.{lastTick};
 ghost use Rattle.node.specs.Image.{layout};
 
@@ -67,7 +66,7 @@ pub fn boot(form: &[u8], image: &mut [u8], out: &mut [u8]) -> Answer
             }
             put_node(image, Node::new(roster.lines, roster.faults, roster.own));
             put_fresh_rows(image, form, n);
-            put_record(out, 0, 0, ECHO, 0);
+            put_broadcast(out, 0, ECHO, 0);
             Answer {
                 number: 0,
                 records: 1,
@@ -76,9 +75,9 @@ pub fn boot(form: &[u8], image: &mut [u8], out: &mut [u8]) -> Answer
     }
 }
 
-// The number of a delivery: 7 to 11, or 0.
-fn deliver_number(image: &[u8], port: u32, frame: &[u8], room: usize) -> u32
-    ensures { λ r. ⌜ r ≡ deliverNumber layout lastTick (now (image .entry)) port (now (frame .entry)) room ⌝ }
+// The number that room, image and port give a delivery: 7 to 9, or 0.
+fn port_number(image: &[u8], port: u32, room: usize) -> u32
+    ensures { λ r. ⌜ r ≡ portNumber layout lastTick (now (image .entry)) port room ⌝ }
 {
     if room < Node::ROOM {
         return 7;
@@ -90,32 +89,33 @@ fn deliver_number(image: &[u8], port: u32, frame: &[u8], room: usize) -> u32
     if count_word(image, HEADER, ROW, n, port) == 0 {
         return 9;
     }
-    match read_frame(frame, Node::LAST_TICK) {
-        FrameRead::Refused(why) => why.number(),
-        FrameRead::Taken(_) => 0,
-    }
+    0
 }
 
-// Takes one frame that the wiring delivered from a port.
+// Takes one frame that the wiring delivered from a port. The frame is read once, and what was read is delivered.
 pub fn deliver(image: &mut [u8], port: u32, frame: &[u8], out: &mut [u8]) -> Answer
     ensures { λ r. ⌜ outcomeBy r (now (image .exit)) (now (out .exit))
         ≡ deliverOutcome layout lastTick (now (image .entry)) port (now (frame .entry)) (now (out .entry)) ⌝ }
 {
     let room = out.len();
-    let number = deliver_number(image, port, frame, room);
+    let number = port_number(image, port, room);
     if number != 0 {
         return Answer { number, records: 0 };
     }
-    let taken = Frame {
-        kind: frame[0] as u32,
-        tick: word(frame, 4),
-    };
-    let node = read_node(image);
-    let next = node.deliver(image, HEADER, port, taken, out);
-    put_clock(image, next.node);
-    Answer {
-        number: 0,
-        records: next.records as u32,
+    match read_frame(frame, Node::LAST_TICK) {
+        FrameRead::Refused(why) => Answer {
+            number: why.number(),
+            records: 0,
+        },
+        FrameRead::Taken(taken) => {
+            let node = read_node(image);
+            let next = node.deliver(image, HEADER, port, taken, out);
+            put_clock(image, next.node);
+            Answer {
+                number: 0,
+                records: next.records as u32,
+            }
+        }
     }
 }
 

@@ -99,8 +99,8 @@ put-fresh-rows-requires c κs =
       form-length (bytes known) (taken known .0),
     )
 
-put-record-requires : tie.Need-put-record-requires
-put-record-requires c κs = search needs
+put-broadcast-requires : tie.Need-put-broadcast-requires
+put-broadcast-requires c κs = search needs
 
 returns-3 : tie.Need-returns-3
 unfolding booted
@@ -118,19 +118,19 @@ same-length-2 : tie.Need-same-length-2
 same-length-2 c = search needs
 
 -- what is sent is echo 0 to all
-sent : (c : tie.After-put-record) →
+sent : (c : tie.After-put-broadcast) →
     let known = c .before .before .before .before .before .before .before .before .before .before .before .before .before in
     let a = known .before .before .before .before .before .before .before .before .args in
-    c .put-record .last .0 ≡ putRecords (now (a .out)) 0 bootRecords
+    c .put-broadcast .last .0 ≡ putRecords (now (a .out)) 0 bootRecords
 unfolding putRecords
-sent c = c .put-record .ensures
+sent c = c .put-broadcast .ensures
 
 -- the definition's outcome, with the bytes as the stores left them
-done : (c : tie.After-put-record) →
+done : (c : tie.After-put-broadcast) →
     let known = c .before .before .before .before .before .before .before .before .before .before .before .before .before in
     let a = known .before .before .before .before .before .before .before .before .args in
     booted layout (now (a .form)) (now (a .image)) (now (a .out))
-    ≡ record { number = 0; records = 1; image = c .before .before .before .before .put-fresh-rows .last .0; out = c .put-record .last .0 }
+    ≡ record { number = 0; records = 1; image = c .before .before .before .before .put-fresh-rows .last .0; out = c .put-broadcast .last .0 }
 unfolding booted bootNumber freshState putState
 done c =
     let rows = c .before .before .before .before in
@@ -173,7 +173,7 @@ boot-spec =
     new-requires
     put-node-requires
     put-fresh-rows-requires
-    put-record-requires
+    put-broadcast-requires
     returns-3
     same-length
     same-length-2

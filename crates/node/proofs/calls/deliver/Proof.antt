@@ -2,113 +2,154 @@
 -- which is what the engine asks, and the stores are the definition's.
 -- Assumes nothing.
 use borrow.Author.Needs.{needs}
-use mathlib.Core.Path.{_≡_, sym, _∙_}
+use mathlib.Core.Path.{_≡_, refl, sym, ap, _∙_}
+use mathlib.Core.List.{List}
 use native.Mathlib.Omega.{arith}
 use denote.Ref.{now}
-use lib.ListN.{length, getD}
+use lib.ListN.{length}
 use lib.Dec.{lit<}
-use Prim.Native.Nat.{_≤_}
-use borrow.Author.Tests.{ne-eqb}
-use Rattle.fields.specs.Field.{field}
-use Rattle.forms.specs.Frame.{frameSize}
-use Rattle.node.specs.Calls.{deliverNumber, deliveryOf, imageAfter, deliverOutcome}
+use Prim.Native.Nat.{ℕ, _≤_}
+use borrow.Author.Tests.{eqb-false, ne-eqb}
+use Rattle.forms.specs.Frame.{frameAt, frameNumber}
+use Rattle.forms.specs.declared.frame.Frame.{Frame}
+use Rattle.forms.proofs.Told.{refusal, first-given}
+use Rattle.node.specs.Calls.{refused, portNumber, deliverNumber, deliveryOf, imageAfter, deliverOutcome}
 use Rattle.rules.specs.Describe.{window, lastTick}
 use Rattle.node.specs.Image.{layout, headerSize, nodeOf, stateOf}
 use Rattle.rules.specs.Steps.{DeliveredAs}
 use Rattle.rules.proofs.Clock.{delivered-ordered}
+use Rattle.node.proofs.Outcomes.{deliver-refused}
 use Rattle.node.proofs.Sound.{SoundBytes, sound-bytes, sound-rows, sound-once}
-use Rattle.node.proofs.Taken.{Taken, deliver-taken, frame-whole}
+use Rattle.node.proofs.Taken.{told-misshapen, told-frame, Taken, deliver-taken, frame-whole}
 use Rattle.node.proofs.calls.deliver.Statement.{statement}
 use Rattle.node.proofs.calls.deliver.Tie as tie
 
-deliver-number-requires : tie.Need-deliver-number-requires
-deliver-number-requires c κs = search needs
+port-number-requires : tie.Need-port-number-requires
+port-number-requires c κs = search needs
 
 same-length : tie.Need-same-length
 same-length c = search needs
 
+-- ---- refused: the number is the first of the two that is not 0
+
+refuses :
+    (image : List ℕ) (port : ℕ) (frame out : List ℕ) (k : ℕ)
+    → deliverNumber layout lastTick image port frame (length out) ≡ k
+    → (k ≡ 0 → ⊥)
+    → refused k image out ≡ deliverOutcome layout lastTick image port frame out
+refuses image port frame out k e n =
+    sym (deliver-refused layout lastTick image port frame out (λ z. n (sym e ∙ z)) ∙ ap (λ (m : ℕ). refused m image out) e)
+
 returns : tie.Need-returns
-unfolding deliverOutcome
-returns c = rw (← c .before .deliver-number .ensures, ne-eqb (c .before .deliver-number .result) 0 (c .if1 .taken))
+unfolding deliverNumber
+returns c =
+    let a = c .before .before .before .before .before .before .args in
+    let number = c .before .port-number in
+    let some = c .if1 .taken in
+    refuses (now (a .image)) (a .port) (now (a .frame)) (now (a .out)) (number .result)
+    (rw (← number .ensures) (first-given (number .result) (frameNumber lastTick (now (a .frame))) (ne-eqb (number .result) 0 some))) some
+
+read-frame-requires : tie.Need-read-frame-requires
+read-frame-requires c κs = search needs
+
+enum-known-why : tie.Need-enum-known-why
+enum-known-why c = search needs
+
+number-requires : tie.Need-number-requires
+number-requires c κs = search needs
+
+enum-known-taken : tie.Need-enum-known-taken
+enum-known-taken c = search needs
 
 -- where the call starts
 abbrev start : tie.Else1 → tie.Start
 start c = c .before .before .before .before .before .before
 
--- past the test the number is 0
-success : (c : tie.Else1) →
+-- past the test room, image and port give 0
+passed : (c : tie.Else1) →
     let a = start c .args in
-    deliverNumber layout lastTick (now (a .image)) (a .port) (now (a .frame)) (length (now (a .out))) ≡ 0
-success c = sym (c .before .deliver-number .ensures) ∙ c .if1 .left
+    portNumber layout lastTick (now (a .image)) (a .port) (length (now (a .out))) ≡ 0
+passed c = sym (c .before .port-number .ensures) ∙ c .if1 .left
 
-taken : (c : tie.Else1) →
-    let a = start c .args in
+returns-2 : tie.Need-returns-2
+unfolding deliverNumber
+returns-2 c =
+    let why = c .before .before in
+    let read = why .before .before in
+    let a = start (read .before) .args in
+    refuses (now (a .image)) (a .port) (now (a .frame)) (now (a .out)) (c .number .result)
+    (rw (passed (read .before))
+    (told-misshapen lastTick _ _ _ (read .read-frame .ensures) (why .why .given .1) ∙ sym (c .number .ensures)))
+    (λ z. eqb-false _ 0 (refusal (why .why .given .0 .0)) (sym (c .number .ensures) ∙ z))
+
+-- ---- taken
+
+-- past the reader the frame is that of the bytes, and the number is 0
+success : (c : tie.After-taken) →
+    let a = start (c .before .before .before) .args in
+    deliverNumber layout lastTick (now (a .image)) (a .port) (now (a .frame)) (length (now (a .out))) ≡ 0
+unfolding deliverNumber
+success c =
+    let read = c .before .before in
+    rw (passed (read .before)) (told-frame lastTick _ _ _ (read .read-frame .ensures) (c .taken .given .1) .0)
+
+taken : (c : tie.After-taken) →
+    let a = start (c .before .before .before) .args in
     Taken layout lastTick (now (a .image)) (a .port) (now (a .frame)) (length (now (a .out)))
 taken c =
-    let a = start c .args in
+    let a = start (c .before .before .before) .args in
     deliver-taken layout lastTick (now (a .image)) (a .port) (now (a .frame)) (length (now (a .out))) (success c)
 
-sound : (c : tie.Else1) → SoundBytes layout lastTick (now (start c .args .image))
-sound c = sound-bytes layout lastTick (now (start c .args .image)) (taken c .sound)
-
-whole : (c : tie.Else1) → length (now (start c .args .frame)) ≡ frameSize
-whole c = frame-whole lastTick (now (start c .args .frame)) (taken c .shape) .size
-
-shared-slice-read-t14 : tie.Need-shared-slice-read-t14
-shared-slice-read-t14 c = omega (arith, whole (c .before))
-
-cast-t15 : tie.Need-cast-t15
-cast-t15 c = omega (arith, c .shared-slice-known2 .given 0)
-
-word-requires : tie.Need-word-requires
-word-requires c κs = omega (arith, whole (c .before))
+sound : (c : tie.After-taken) → SoundBytes layout lastTick (now (start (c .before .before .before) .args .image))
+sound c = sound-bytes layout lastTick (now (start (c .before .before .before) .args .image)) (taken c .sound)
 
 read-node-requires : tie.Need-read-node-requires
-read-node-requires c κs = sound (c .before .before .before) .header
+read-node-requires c κs = sound (c .before .before) .header
 
 -- a sound image has no serial twice, whichever port is meant; that it is the call's shows in `done`
 deliver-requires : tie.Need-deliver-requires
 unfolding nodeOf
 deliver-requires c κs =
-    let passed = c .before .before .before .before .before .before in
-    let image = now (start passed .args .image) in
+    let whole = c .before .before .before .before .before in
+    let image = now (start (whole .before .before .before) .args .image) in
     rw (c .before .before .read-node .ensures)
     (record {
-      rows = sound-rows lastTick image (sound passed);
-      space = taken passed .space;
-      once = sound-once lastTick image (sound passed) _;
+      rows = sound-rows lastTick image (sound whole);
+      space = taken whole .space;
+      once = sound-once lastTick image (sound whole) _;
     })
 
 -- what the engine promises is the delivery of the definition
 done : (c : tie.After-deliver) →
-    let a = start (c .before .before .before .before .before .before .before) .args in
+    let a = start (c .before .before .before .before .before .before .before .before .before) .args in
     let d = deliveryOf layout lastTick (now (a .image)) (a .port) (now (a .frame)) in
     let last = c .deliver .last .1 in
     DeliveredAs d (now (a .image)) headerSize (now (a .out)) (c .deliver .result) (last .0) (last .1 .1 .1 .1 .0)
 unfolding deliveryOf stateOf nodeOf
 done c =
     let node = c .before .before .before in
-    rw (node .read-node .ensures, node .before .before .word .ensures) at (c .deliver .ensures)
+    let whole = node .before .before .before in
+    let read = whole .before .before in
+    rw (node .read-node .ensures, told-frame lastTick _ _ _ (read .read-frame .ensures) (whole .taken .given .1) .1) at (c .deliver .ensures)
 
 -- the mode is still 0 or 1
 mode : (c : tie.After-deliver) → c .deliver .result .node .mode ≤ 1
 unfolding deliveryOf
 mode c =
-    let passed = c .before .before .before .before .before .before .before in
-    let a = start passed .args in
-    let frame = now (a .frame) in
-    let s = sound passed .node in
+    let whole = c .before .before .before .before .before .before in
+    let a = start (whole .before .before .before) .args in
+    let s = sound whole .node in
     rw (done c .node)
-    (delivered-ordered window lastTick (stateOf layout (now (a .image))) (a .port) (getD frame 0 0) (field 4 frame 4) (lit< tt) (s .sets)
-    (frame-whole lastTick frame (taken passed .shape) .tick) (record { mode = s .mode; sent = s .sent; tick = s .tick }) .mode)
+    (delivered-ordered window lastTick (stateOf layout (now (a .image))) (a .port) (frameAt (now (a .frame)) 0) (lit< tt) (s .sets)
+    (frame-whole lastTick (now (a .frame)) (taken whole .shape) .tick) (record { mode = s .mode; sent = s .sent; tick = s .tick }) .mode)
 
 put-clock-requires : tie.Need-put-clock-requires
 put-clock-requires c κs =
     let engine = c .before .before .before .before .before in
-    omega (arith, engine .deliver .kept .1 .0, sound (engine .before .before .before .before .before .before .before) .header, mode engine)
+    omega (arith, engine .deliver .kept .1 .0, sound (engine .before .before .before .before .before .before) .header, mode engine)
 
-cast-t15-2 : tie.Need-cast-t15-2
-cast-t15-2 c = search needs
+cast-t26 : tie.Need-cast-t26
+cast-t26 c = search needs
 
 same-length-2 : tie.Need-same-length-2
 same-length-2 c = search needs
@@ -116,14 +157,17 @@ same-length-2 c = search needs
 same-length-3 : tie.Need-same-length-3
 same-length-3 c = search needs
 
-returns-2 : tie.Need-returns-2
+same-length-4 : tie.Need-same-length-4
+same-length-4 c = search needs
+
+returns-3 : tie.Need-returns-3
 unfolding deliverOutcome imageAfter
-returns-2 c =
+returns-3 c =
     let clock = c .before .before .before in
     let engine = clock .before .before .before .before .before .before in
     let d = done engine in
     rw (
-      success (engine .before .before .before .before .before .before .before),
+      success (engine .before .before .before .before .before .before),
       clock .put-clock .ensures,
       d .node,
       d .rows,
@@ -135,16 +179,19 @@ pub deliver-spec : {M : Type 1} → statement M
 deliver-spec =
     tie.close
     (tie.spec
-    deliver-number-requires
+    port-number-requires
     same-length
     returns
-    shared-slice-read-t14
-    cast-t15
-    word-requires
+    read-frame-requires
+    enum-known-why
+    number-requires
+    enum-known-taken
     read-node-requires
     deliver-requires
     put-clock-requires
-    cast-t15-2
+    cast-t26
     same-length-2
+    returns-2
     same-length-3
-    returns-2)
+    same-length-4
+    returns-3)

@@ -1,0 +1,87 @@
+-- `calls::port_number` meets its contract: the tests are those of the definition, one after the other, and the rows of a sound image
+-- lie inside the buffer.
+-- Assumes nothing.
+use borrow.Author.Needs.{needs}
+use mathlib.Core.Path.{_≡_, sym, _∙_}
+use mathlib.Core.Bool.{true}
+use native.Mathlib.Omega.{arith}
+use denote.Ref.{now}
+use lib.Dec.{lit≤}
+use borrow.Author.Tests.{lt-ltb, le-ltb, eq-eqb, ne-eqb, not-true, not-false}
+use Rattle.node.specs.Calls.{portNumber}
+use Rattle.rules.specs.Describe.{room, lastTick}
+use Rattle.node.specs.Image.{layout, soundImage}
+use Rattle.node.proofs.Sound.{SoundBytes, sound-bytes, rows-inside}
+use Rattle.node.proofs.calls.port_number.Statement.{statement}
+use Rattle.node.proofs.calls.port_number.Tie as tie
+
+returns : tie.Need-returns
+unfolding portNumber
+returns c =
+    let a = c .before .before .args in
+    rw (lt-ltb (a .room) room (omega arith))
+
+is-sound-requires : tie.Need-is-sound-requires
+is-sound-requires c κs = search needs
+
+returns-2 : tie.Need-returns-2
+unfolding portNumber
+returns-2 c =
+    let a = c .before .before .before .before .args in
+    rw (
+      le-ltb (a .room) room (c .before .before .if1 .left),
+      sym (c .before .is-sound .ensures) ∙ not-true (c .before .is-sound .result) (c .if2 .taken),
+    )
+
+-- past the second test the image is sound
+sound : (c : tie.Else2) → soundImage layout lastTick (now (c .before .before .before .before .args .image)) ≡ true
+sound c = sym (c .before .is-sound .ensures) ∙ not-false (c .before .is-sound .result) (c .if2 .left)
+
+facts : (c : tie.Else2) → SoundBytes layout lastTick (now (c .before .before .before .before .args .image))
+facts c = sound-bytes layout lastTick (now (c .before .before .before .before .args .image)) (sound c)
+
+shared-slice-read-n : tie.Need-shared-slice-read-n
+shared-slice-read-n c = omega (arith, facts (c .before) .header)
+
+cast-n : tie.Need-cast-n
+cast-n c = omega (arith, c .shared-slice-known2 .given 0)
+
+count-word-requires : tie.Need-count-word-requires
+count-word-requires c κs =
+    let h = facts (c .before) in
+    (lit≤ tt, rows-inside layout (now (c .before .before .before .before .before .args .image)) (h .fixed) (h .stated))
+
+returns-3 : tie.Need-returns-3
+unfolding portNumber
+returns-3 c =
+    let a = c .before .before .before .before .before .before .before .args in
+    rw (
+      le-ltb (a .room) room (c .before .before .before .before .before .if1 .left),
+      sound (c .before .before .before),
+      ← c .before .count-word .ensures .0,
+      eq-eqb (c .before .count-word .result) 0 (c .if3 .taken),
+    )
+
+returns-4 : tie.Need-returns-4
+unfolding portNumber
+returns-4 c =
+    let a = c .before .before .before .before .before .before .before .args in
+    rw (
+      le-ltb (a .room) room (c .before .before .before .before .before .if1 .left),
+      sound (c .before .before .before),
+      ← c .before .count-word .ensures .0,
+      ne-eqb (c .before .count-word .result) 0 (c .if3 .left),
+    )
+
+pub port-number-spec : {M : Type 1} → statement M
+port-number-spec =
+    tie.close
+    (tie.spec
+    returns
+    is-sound-requires
+    returns-2
+    shared-slice-read-n
+    cast-n
+    count-word-requires
+    returns-3
+    returns-4)

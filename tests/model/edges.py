@@ -1,19 +1,20 @@
 #!/usr/bin/env python3
-"""The edges of document 01 on fields, forms, frames, sets of ticks and rows, from the paper alone: forms and frames are bytes made
-of their fields, a set of ticks is a Python set of ints. CASES has the cases; this writes what the program `edges` is given, and
-what it must print.
+"""The edges of document 01 on fields, forms, frames, sets of ticks and rows, with the flag of request A2, from the papers alone: forms
+and frames are bytes made of their fields, a set of ticks is a Python set of ints. CASES has the cases; this writes what the program
+`edges` is given, and what it must print.
 
 usage: tests/model/edges.py stdin > crates/edges/stdin
        tests/model/edges.py stdout > crates/edges/stdout"""
 import sys
 
 WINDOW, LAST, INIT, ECHO = 64, 4_000_000_000, 1, 2
+BROADCAST, ANSWER = 0, 1                                                               # byte 1 of a frame
 
 # ---- the input: for each case a head, the label and the bytes that the call is given
 
 CALLS = ["half", "word", "long", "form", "serial", "frame", "write form", "write frame", "none", "after", "holds", "proper", "rows", "row",
          "holders", "greatest"]                                                       # numbered from 0
-WORDS = ["room", "count", "serial", "kind", "tick", "last", "top"]                     # of a head, 0 where a call has no use for one
+WORDS = ["room", "count", "serial", "kind", "flag", "tick", "last", "top"]             # of a head, 0 where a call has no use for one
 
 
 def case(call, label, answer, data=b"", value=0, **words):
@@ -92,28 +93,28 @@ def write_form(label, f, own, serials, room):
     return case("write form", f"write form {label}:", answer, words(*serials), room=room, count=f, serial=own)
 
 
-# ---- frames
+# ---- frames (A2: byte 1 of an echo may be 1)
 
-def frame(kind, tick, zeros=b"\x00\x00\x00"):
-    return bytes([kind]) + zeros + word(tick)
+def frame(kind, tick, flag=BROADCAST, zeros=b"\x00\x00"):
+    return bytes([kind, flag]) + zeros + word(tick)
 
 
-def frame_number(kind, tick):
-    return 10 if kind not in (INIT, ECHO) else 11 if tick > LAST else 0
+def frame_number(kind, flag, tick):
+    return 10 if (kind, flag) not in [(INIT, BROADCAST), (ECHO, BROADCAST), (ECHO, ANSWER)] else 11 if tick > LAST else 0
 
 
 def read_frame(label, b):
-    number, kind, tick = 10, 0, 0
-    if len(b) == 8 and b[1:4] == b"\x00\x00\x00":
-        kind, tick = b[0], int.from_bytes(b[4:], "big")
-        number = frame_number(kind, tick)
-    return case("frame", f"frame {label}:", [number, 0, 0] if number else [0, kind, tick], b, last=LAST)
+    number, fields = 10, [0, 0, 0]
+    if len(b) == 8 and b[2:4] == b"\x00\x00":
+        fields = [b[0], b[1], int.from_bytes(b[4:], "big")]
+        number = frame_number(*fields)
+    return case("frame", f"frame {label}:", [number, 0, 0, 0] if number else [0, *fields], b, last=LAST)
 
 
-def write_frame(label, kind, tick, room):
-    number = frame_number(kind, tick)
-    answer = written(number, b"" if number else frame(kind, tick), room)
-    return case("write frame", f"write frame {label}:", answer, room=room, kind=kind, tick=tick, last=LAST)
+def write_frame(label, kind, tick, room, flag=BROADCAST):
+    number = frame_number(kind, flag, tick)
+    answer = written(number, b"" if number else frame(kind, tick, flag), room)
+    return case("write frame", f"write frame {label}:", answer, room=room, kind=kind, flag=flag, tick=tick, last=LAST)
 
 
 # ---- sets of ticks (01, "Evidence")
@@ -275,26 +276,43 @@ CASES = [
     read_frame("echo 16909060", frame(ECHO, 16909060)),
     read_frame("last tick", frame(ECHO, LAST)),
     read_frame("after the last tick", frame(ECHO, LAST + 1)),
-    # 10 for the length, the kind and bytes 1 to 3, before 11
+    # an answer, of any tick
+    *(read_frame(f"answer {tick}", frame(ECHO, tick, ANSWER)) for tick in (0, 16909060, LAST, LAST + 1)),
+    # 10 for the length, the kind, the flag and bytes 2 and 3, before 11
     read_frame("empty", b""),
     read_frame("of 7 bytes", frame(ECHO, 0)[:7]),
     read_frame("of 9 bytes", frame(ECHO, 0) + b"\x00"),
     read_frame("of 9 bytes with a late tick", frame(ECHO, 2**32 - 1) + b"\x00"),
-    read_frame("kind 0", frame(0, 0)),
-    read_frame("kind 3", frame(3, 0)),
+    read_frame("answer of 9 bytes", frame(ECHO, 0, ANSWER) + b"\x00"),
+    *(read_frame(f"kind {kind}", frame(kind, 0)) for kind in (0, 3)),
     read_frame("kind 3 with a late tick", frame(3, 2**32 - 1)),
-    read_frame("byte 1 set", frame(INIT, 0, b"\x01\x00\x00")),
-    read_frame("byte 2 set", frame(INIT, 0, b"\x00\x01\x00")),
-    read_frame("byte 3 set", frame(INIT, 0, b"\x00\x00\x01")),
+    *(read_frame(f"kind {kind} flag 1", frame(kind, 0, ANSWER)) for kind in (0, INIT, 3)),
+    *(read_frame(f"echo flag {flag}", frame(ECHO, 0, flag)) for flag in (2, 3, 128, 255)),
+    read_frame("echo flag 2 with a late tick", frame(ECHO, LAST + 1, 2)),
+    read_frame("init flag 1 with a late tick", frame(INIT, LAST + 1, ANSWER)),
+    *(read_frame(f"{name} byte {2 + at} set", frame(kind, 0, flag, bytes([1 - at, at])))
+      for name, kind, flag in [("init", INIT, BROADCAST), ("echo", ECHO, BROADCAST), ("answer", ECHO, ANSWER)] for at in (0, 1)),
     *(write_frame(f"kind {kind}", kind, 5, 8) for kind in (0, 3, 257)),
     write_frame("kind 3 with a late tick", 3, LAST + 1, 8),
     write_frame("after the last tick", INIT, LAST + 1, 8),
     write_frame("the last tick", INIT, LAST, 8),
+    *(write_frame(f"answer {tick}", ECHO, tick, 8, ANSWER) for tick in (0, 5, LAST, LAST + 1)),
+    # 10 for the flag: the last byte of a wider one may be that of a right one, and a flag of 256 must not count to the kind
+    *(write_frame(f"kind {kind} flag 1", kind, 5, 8, ANSWER) for kind in (0, INIT, 3)),
+    *(write_frame(f"echo flag {flag}", ECHO, 5, 8, flag) for flag in (2, 3, 255, 256, 257, 65537, 2**32 - 1)),
+    *(write_frame(f"init flag {flag}", INIT, 5, 8, flag) for flag in (2, 256, 257, 65536)),
+    write_frame("kind 0 flag 512", 0, 5, 8, 512),
+    write_frame("echo flag 2 with a late tick", ECHO, LAST + 1, 8, 2),
+    write_frame("init flag 1 with a late tick", INIT, LAST + 1, 8, ANSWER),
     # 7, last, and the byte behind
     write_frame("into 7", ECHO, 5, 7),
     write_frame("kind 0 into 7", 0, 5, 7),
     write_frame("a late tick into 7", ECHO, LAST + 1, 7),
     write_frame("into 9", ECHO, 16909060, 9),
+    write_frame("answer into 7", ECHO, 5, 7, ANSWER),
+    write_frame("echo flag 2 into 7", ECHO, 5, 7, 2),
+    write_frame("answer with a late tick into 7", ECHO, LAST + 1, 7, ANSWER),
+    write_frame("answer into 9", ECHO, 16909060, 9, ANSWER),
     # from {100}: the old tick lies 62, 63, 64 and 65 below the new one. From the empty set the top 0 is no tick
     show_after("init 100", set(), INIT, 100),
     *(show_after(f"init 100, init {tick}", HUNDRED, INIT, tick) for tick in (162, 163, 164, 165, LAST)),

@@ -32,14 +32,15 @@ def run():
         _, records = node.boot(form(serial), images[serial], out)
         send(serial, out, records)
 
-    for step in range(260):
+    for step in range(240):  # so many that the clocks are at tick 4, which the entries of packs.py go by
         if step in (0, 12, 30):
             boot({0: 11, 12: 22, 30: 33}[step])
         if step % 5 == 0:  # the liar says a tick far ahead, far behind, or nonsense, to everybody something else
             for serial in SERIALS[:3]:
                 kind = rng.choice([1, 2])
                 tick = rng.choice([0, 3, 7, 1000, 3_999_999_999, 4_294_967_295])
-                wire.append((LIAR, serial, node.write_frame(kind, tick)))
+                flag = rng.choice([node.BROADCAST, node.ANSWER])  # an init that says to be an answer is nonsense, too
+                wire.append((LIAR, serial, node.write_frame(kind, flag, tick)))
         if not wire:
             continue
         sender, dest, frame = wire.pop(0)

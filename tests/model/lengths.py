@@ -16,7 +16,7 @@ def words(*numbers):
 
 
 FORM = bytes([LINES, 0, 0, 8]) + words(1, *range(1, LINES + 1))
-GREATEST = words(EVENTS, 12, 12 + len(FORM)) + FORM + (words(1) + node.write_frame(node.ECHO, 0)) * EVENTS
+GREATEST = words(EVENTS, 12, 12 + len(FORM)) + FORM + (words(1) + node.write_frame(node.ECHO, node.BROADCAST, 0)) * EVENTS
 assert len(GREATEST) == 50_164
 
 # Each with the line that document 01 settles: 2 where the layout is right, since no form of so many lines is taken; else 13.

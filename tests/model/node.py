@@ -1,6 +1,6 @@
 #!/usr/bin/env python3
-"""Document 01 in Python, written from the paper alone and sharing nothing with the Rattle crates: evidence is a set of numbers for
-each serial and kind, and the rules are tried as the paper lists them.
+"""Document 01 in Python, with the flag of request A2, written from the papers alone and sharing nothing with the Rattle crates: evidence
+is a set of numbers for each serial and kind, and the rules are tried as the paper lists them.
 
 usage: node.py < LOG      prints the listing of a log
 
@@ -12,6 +12,8 @@ LAST = 4_000_000_000  # the last tick
 WINDOW = 64
 ROOM = 192  # bytes of output that boot and deliver ask
 INIT, ECHO = 1, 2
+BROADCAST, ANSWER = 0, 1  # byte 1 of a frame, its flag
+FLAGS = {INIT: {BROADCAST}, ECHO: {BROADCAST, ANSWER}}  # those that each kind may have
 HEADER, ROW = 32, 28
 
 Node = namedtuple("Node", "n f own active k last")  # last: the last echo sent
@@ -49,19 +51,19 @@ def read_form(form):
 
 
 def read_frame(frame):
-    refuse_if(len(frame) != 8 or frame[0] not in (INIT, ECHO) or any(frame[1:4]), 10)
+    refuse_if(len(frame) != 8 or frame[1] not in FLAGS.get(frame[0], ()) or any(frame[2:4]), 10)
     tick = number(frame[4:8])
     refuse_if(tick > LAST, 11)
-    return frame[0], tick
+    return frame[0], frame[1], tick
 
 
-def write_frame(kind, tick):
-    return bytes([kind, 0, 0, 0]) + tick.to_bytes(4, "big")
+def write_frame(kind, flag, tick):
+    return bytes([kind, flag, 0, 0]) + tick.to_bytes(4, "big")
 
 
 def write_records(records, out):
-    """Puts (destination, kind, tick) each at the front of the output; gives their number."""
-    data = b"".join(to.to_bytes(4, "big") + write_frame(kind, tick) for to, kind, tick in records)
+    """Puts (destination, kind, flag, tick) each at the front of the output; gives their number."""
+    data = b"".join(to.to_bytes(4, "big") + write_frame(kind, flag, tick) for to, kind, flag, tick in records)
     assert len(data) <= ROOM
     out[: len(data)] = data
     return len(records)
@@ -126,31 +128,38 @@ def holders(evidence, kind):
     return Counter(tick for sets in evidence.values() for tick in sets[kind])
 
 
+def broadcast(kind, tick):
+    """The record that goes to all."""
+    return 0, kind, BROADCAST, tick
+
+
 def next_firing(node, evidence):
     """The first rule that can fire, fired: the node that follows and the broadcasts; None where no rule can."""
     k, some = node.k, node.f + 1
     echo, init = holders(evidence, ECHO), holders(evidence, INIT)
     unsent = node.last < k
     if (init[k] >= some and unsent) or (echo[k] >= some and unsent):  # R1, R2
-        return node._replace(last=k), [(0, ECHO, k)]
+        return node._replace(last=k), [broadcast(ECHO, k)]
     if echo[k] >= node.n - node.f and k < LAST:  # R3
-        return node._replace(k=k + 1), [(0, INIT, k + 1)]
+        return node._replace(k=k + 1), [broadcast(INIT, k + 1)]
     ahead = [tick for tick, serials in echo.items() if serials >= some and tick > k + 1]
     if ahead:  # R4
         to = max(ahead) - 1
-        return node._replace(k=to, last=to), [(0, ECHO, to)]
+        return node._replace(k=to, last=to), [broadcast(ECHO, to)]
     begun = [tick for tick, serials in init.items() if serials >= some]
     if not node.active and begun:  # R5
         to = max(max(begun) - 1, k)
-        said = [(0, ECHO, to)] if node.last < to else []
+        said = [broadcast(ECHO, to)] if node.last < to else []
         return node._replace(active=True, k=to, last=max(node.last, to)), said
     return None
 
 
-def step(node, evidence, port, kind, tick):
-    """One delivery: the node that follows and its records; the evidence is changed in place."""
+def step(node, evidence, port, kind, flag, tick):
+    """One delivery: the node that follows and its records; the evidence is changed in place. A broadcast of echo 0 by another serial is
+    answered, an answer never; evidence and rules do not know the flag."""
     credit(evidence, port, kind, tick)
-    records = [(port, ECHO, node.last)] if (kind, tick) == (ECHO, 0) and port != node.own else []
+    asks = (kind, flag, tick) == (ECHO, BROADCAST, 0) and port != node.own
+    records = [(port, ECHO, ANSWER, node.last)] if asks else []
     while (fired := next_firing(node, evidence)) is not None:
         node, said = fired
         records += said
@@ -168,7 +177,7 @@ def boot(form, image, out):
     except Refused as why:
         return why.args[0], 0
     write_image(Node(n, f, own, False, 0, 0), {s: {ECHO: set(), INIT: set()} for s in serials}, image)
-    return 0, write_records([(0, ECHO, 0)], out)
+    return 0, write_records([broadcast(ECHO, 0)], out)
 
 
 def deliver(image, port, frame, out):
@@ -176,10 +185,10 @@ def deliver(image, port, frame, out):
         refuse_if(len(out) < ROOM, 7)
         node, evidence = read_image(image)
         refuse_if(port not in evidence, 9)
-        kind, tick = read_frame(frame)
+        kind, flag, tick = read_frame(frame)
     except Refused as why:
         return why.args[0], 0
-    node, records = step(node, evidence, port, kind, tick)
+    node, records = step(node, evidence, port, kind, flag, tick)
     write_image(node, evidence, image)
     return 0, write_records(records, out)
 

@@ -10,7 +10,7 @@ import struct
 import sys
 
 import node
-from node import ECHO, INIT, LAST
+from node import ANSWER, BROADCAST, ECHO, INIT, LAST
 
 FILL = 165  # what buffers hold before a call
 FOUR = bytes([4, 1, 0, 8]) + b"".join(s.to_bytes(4, "big") for s in (11, 11, 22, 33, 44))
@@ -75,10 +75,10 @@ def boot(label, form, size):
     call(BOOT, form, 960, 200, 0, (size, size, size))
 
 
-def deliver(label, row, port, kind, tick):
+def deliver(label, row, port, kind, tick, flag=BROADCAST):
     begin(label, "deliver")
     at = 32 + 28 * row
-    call(DELIVER, node.write_frame(kind, tick), 960, 200, port, (32, at, at + 28))
+    call(DELIVER, node.write_frame(kind, flag, tick), 960, 200, port, (32, at, at + 28))
 
 
 def try_boot(label, form, size=960, room=200):
@@ -92,7 +92,7 @@ def try_frame(label, port, frame, size=960, room=200):
 
 
 def try_deliver(label, port, kind, tick, size=960, room=200):
-    try_frame(label, port, node.write_frame(kind, tick), size, room)
+    try_frame(label, port, node.write_frame(kind, BROADCAST, tick), size, room)
 
 
 def read(label, size=960):
@@ -111,21 +111,27 @@ def show_image(label, size):
 # The trials
 
 
+# the deliveries of W2 to W9: label, row, port, kind and tick
+STORY = (
+    ("W2", 0, 11, ECHO, 0),
+    ("W3", 1, 22, ECHO, 0),
+    ("W4", 2, 33, ECHO, 0),
+    ("W5", 0, 11, INIT, 1),
+    ("W6", 1, 22, INIT, 1),
+    ("W7", 3, 44, ECHO, 1),
+    ("W7", 2, 33, ECHO, 5),
+    ("W8", 1, 22, ECHO, 6),
+    ("W9", 3, 44, ECHO, 4),
+)
+
+
 def story():
     """W1 to W10 as one story; gives the image of W9. After echo 69 the window begins at 6: echo 7 brings 7 and 6, echo 5 nothing."""
     boot("W1", FOUR, 144)
-    deliver("W2", 0, 11, ECHO, 0)
-    deliver("W3", 1, 22, ECHO, 0)
-    deliver("W4", 2, 33, ECHO, 0)
-    read("W4")
-    deliver("W5", 0, 11, INIT, 1)
-    deliver("W6", 1, 22, INIT, 1)
-    read("W6")
-    deliver("W7", 3, 44, ECHO, 1)
-    deliver("W7", 2, 33, ECHO, 5)
-    deliver("W8", 1, 22, ECHO, 6)
-    deliver("W9", 3, 44, ECHO, 4)
-    read("W9")
+    for label, row, port, kind, tick in STORY:
+        deliver(label, row, port, kind, tick)
+        if label in ("W4", "W6", "W9"):
+            read(label)
     show_image("W9", 144)
     w9 = bytes(image[:144])
     deliver("W10-69", 1, 22, ECHO, 69)
@@ -147,9 +153,21 @@ def refused(w9):
         ("frame-of-7", "02000000000000"),
         ("frame-of-0", ""),
         ("frame-of-9", "02000000ffffffff00"),
-        ("byte-1", "0201000000000005"),
         ("byte-2", "0200010000000005"),
         ("byte-3", "02000001ffffffff"),
+        ("init-flag-1", "0101000000000005"),
+        ("init-0-flag-1", "0101000000000000"),
+        ("init-flag-255", "01ff000000000005"),
+        ("kind-3-flag-1", "0301000000000005"),
+        ("flag-2", "0202000000000005"),
+        ("flag-2-too-late", "02020000ffffffff"),
+        ("flag-128-echo-0", "0280000000000000"),
+        ("flag-255-echo-0", "02ff000000000000"),
+        ("answer-byte-2", "0201010000000005"),
+        ("answer-byte-3", "0201000100000000"),
+        ("answer-of-7", "02010000000000"),
+        ("answer-of-9", "020100000000000000"),
+        ("answer-too-late", "02010000ee6b2801"),
     )
     for label, frame in frames:
         try_frame(label, 22, bytes.fromhex(frame))
@@ -293,6 +311,36 @@ def zero():
     read("init-7-33")
 
 
+def answers(w9):
+    """The flag of an echo: an answer is credited as a broadcast is, and never answered."""
+    clear()
+    boot("answers", FOUR, 144)
+    fresh = bytes(image[:144])
+    # the flag decides, not what was heard before: 22 is answered where it asks, and not where it answers
+    deliver("answer", 1, 22, ECHO, 0, ANSWER)
+    deliver("answer-again", 1, 22, ECHO, 0, ANSWER)
+    deliver("then-asks", 1, 22, ECHO, 0)
+    deliver("then-answer", 1, 22, ECHO, 0, ANSWER)
+    deliver("answer-own", 0, 11, ECHO, 0, ANSWER)
+    # answers of other ticks: with the second echo 70 the node jumps to 69; echo 0 is now below the window of 22
+    deliver("answer-70-22", 1, 22, ECHO, 70, ANSWER)
+    deliver("answer-1-33", 2, 33, ECHO, 1, ANSWER)
+    deliver("answer-70-33", 2, 33, ECHO, 70, ANSWER)
+    deliver("answer-below", 1, 22, ECHO, 0, ANSWER)
+    deliver("asks-below", 1, 22, ECHO, 0)
+    deliver("asks-44", 3, 44, ECHO, 0)
+    # three serials hold echo 0 by answers alone: the node ticks, and the init is its only record
+    hand_in(fresh)
+    for row, port in ((1, 22), (3, 44), (2, 33)):
+        deliver(f"by-answers-{port}", row, port, ECHO, 0, ANSWER)
+    # every echo of W2 to W9 as an answer leaves the same image, with no answer among the records
+    hand_in(fresh)
+    for label, row, port, kind, tick in STORY:
+        deliver(f"{label}-by-answers", row, port, kind, tick, ANSWER if kind == ECHO else BROADCAST)
+    assert image[:144] == w9
+    deliver("last-answer", 2, 33, ECHO, LAST, ANSWER)
+
+
 def last():
     """The last tick: a jump to the one before it, a tick onto it, and no further."""
     clear()
@@ -344,7 +392,7 @@ def main():
     if sys.argv[1:] not in (["stdin"], ["stdout"]):
         sys.exit(__doc__)
     w9 = story()
-    for trial in (refused, room, unsound):
+    for trial in (refused, room, unsound, answers):
         trial(w9)
     for trial in (rosters, zero, last, small, large):
         trial()

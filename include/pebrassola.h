@@ -24,7 +24,12 @@
 extern "C" {
 #endif
 
-/* Bytes of a roster form and of a node image for n controllers, of a frame, of a record to send, and of the output of boot and deliver. */
+/*
+ * Bytes of a roster form and of a node image for n controllers, of a frame, of a record to send, and of the output of boot and deliver.
+ * Words are big-endian. A frame is kind (byte 0: 1 init, 2 echo), flag (byte 1), two zero bytes, then the tick in 4 bytes. The flag is 1
+ * in an answer, which is an echo to one controller alone, and 0 in a broadcast. A record is the serial that it goes to, 0 for all
+ * (the sender included), then a frame: the wiring carries all 8 bytes of the frame as they are, the flag among them.
+ */
 #define PEBRASSOLA_FORM_BYTES(n) (8u + 4u * (size_t)(n))
 #define PEBRASSOLA_IMAGE_BYTES(n) (32u + 28u * (size_t)(n))
 #define PEBRASSOLA_FRAME_BYTES 8u
@@ -34,8 +39,8 @@ extern "C" {
 #define PEBRASSOLA_LAST_TICK 4000000000u
 
 /*
- * Bytes of a sheet with so many entries, and of an entry. Words are big-endian. A sheet is the count of entries in 2 bytes, where they
- * stand in 2 (always 4), then the entries: pack number, first tick, end (the first tick that is no longer licensed), 4 bytes each.
+ * Bytes of a sheet with so many entries, and of an entry. A sheet is the count of entries in 2 bytes, where they stand in 2 (always 4),
+ * then the entries: pack number, first tick, end (the first tick that is no longer licensed), 4 bytes each.
  */
 #define PEBRASSOLA_SHEET_BYTES(entries) (4u + PEBRASSOLA_ENTRY_BYTES * (size_t)(entries))
 #define PEBRASSOLA_ENTRY_BYTES 12u
@@ -53,7 +58,7 @@ enum pebrassola_number {
     PEBRASSOLA_OUT_ROOM = 7,      /* output shorter than 192 bytes; for write_sheet, than the sheet */
     PEBRASSOLA_IMAGE = 8,         /* image buffer shorter than 32 or than its stated size, or image not sound */
     PEBRASSOLA_PORT = 9,          /* port serial not in the roster */
-    PEBRASSOLA_FRAME = 10,        /* frame not 8 long, kind not 1 or 2, or bytes 1..3 not zero */
+    PEBRASSOLA_FRAME = 10,        /* frame not 8 long, kind not 1 or 2, flag not 0 (for an echo: not 0 or 1), or bytes 2..3 not zero */
     PEBRASSOLA_FRAME_TICK = 11,   /* tick above the last tick */
     PEBRASSOLA_PASSIVE = 12,      /* the node is passive: it has no clock yet */
     PEBRASSOLA_SHEET_LAYOUT = 14, /* sheet shorter than 4, offset not 4, more than 200 entries, or length not 4 + 12 x count; for
@@ -95,16 +100,19 @@ enum pebrassola_licences {
 
 /*
  * Makes a fresh node of a roster form in the image buffer: clock 0, passive, nothing held. Puts one record into the output: echo 0
- * to all. Gives 1 to 7 in ascending order. Bytes behind the image and behind the record stay.
+ * to all, a broadcast. Gives 1 to 7 in ascending order. Bytes behind the image and behind the record stay.
  */
 struct pebrassola_answer pebrassola_boot(const uint8_t *form, size_t form_length, uint8_t *image, size_t image_length,
                                          uint8_t *out, size_t out_length);
 
 /*
  * Takes one frame that the wiring delivered from the controller with this serial (the port). Own broadcasts count only when the
- * wiring delivers them back. Puts what the node has to send at the front of the output, at most 16 records: destination serial (0
- * means all, the sender included), then a frame. Gives 7, 8, 9, 10, 11 in this order. Only mode, clock, last echo and the port's row
- * of the image change.
+ * wiring delivers them back. Puts what the node has to send at the front of the output, at most 16 records. Gives 7, 8, 9, 10, 11 in
+ * this order. Only mode, clock, last echo and the port's row of the image change.
+ *
+ * Echo 0 with flag 0 from another controller asks where the node stands: the first record is then an answer to it, an echo of the last
+ * tick that the node echoed, with flag 1. A frame with flag 1 is never answered, so two controllers do not answer each other forever.
+ * Apart from that a node makes no difference between an echo with flag 0 and one with flag 1. All that goes to all has flag 0.
  */
 struct pebrassola_answer pebrassola_deliver(uint8_t *image, size_t image_length, uint32_t port, const uint8_t *frame,
                                             size_t frame_length, uint8_t *out, size_t out_length);

@@ -51,9 +51,11 @@ void check(const char *call, int same)
 
 int main(void)
 {
-    unsigned long sound_images = compare_nodes();
+    struct node_calls nodes = compare_nodes();
     struct sheet_calls sheets = compare_sheets();
-    printf("compare: %lu calls (%lu random sound images; %lu calls of sheets, each outcome %lu times or more), %lu differences\n", calls,
-           sound_images, sheets.all, sheets.rarest, differences);
-    return differences != 0 || calls < 600000 || sound_images < 1000 || sheets.all < 200000 || sheets.rarest < 1000;
+    printf("compare: %lu calls (%lu random sound images; echo 0 of another %lu times as a broadcast, %lu times as an answer; %lu calls of "
+           "sheets, each outcome %lu times or more), %lu differences\n",
+           calls, nodes.sound_images, nodes.zeros[0], nodes.zeros[1], sheets.all, sheets.rarest, differences);
+    if (calls < 600000 || nodes.sound_images < 1000 || nodes.zeros[0] < 1000 || nodes.zeros[1] < 1000) return 1;
+    return differences != 0 || sheets.all < 200000 || sheets.rarest < 1000;
 }

@@ -22,8 +22,13 @@ void hold(const char *fact, int holds);
 
 /* ---- nodes.c */
 
-/* every comparison of boot, deliver and read; gives how many random images were sound */
-unsigned long compare_nodes(void);
+struct node_calls {
+    unsigned long sound_images; /* random images that were sound */
+    unsigned long zeros[2];     /* how often echo 0 of another serial was taken, by its flag: as a broadcast, as an answer */
+};
+
+/* every comparison of boot, deliver and read */
+struct node_calls compare_nodes(void);
 
 /* boots a node of n controllers in any order, with its form, and lets it take so many frames; gives the image's size */
 size_t live(uint8_t *form, uint8_t *kept, unsigned n, unsigned faults, unsigned frames);

@@ -10,7 +10,7 @@
 #include "pebrassola.h"
 #include "words.h"
 
-static unsigned long sound_images;
+static struct node_calls counted;
 
 /* ---- the three calls, on copies; the image that the model leaves is kept */
 
@@ -44,10 +44,13 @@ static uint32_t deliver(uint8_t *kept, size_t i_length, uint32_t port, const uin
 {
     struct pebrassola_answer r;
     struct model_result m;
+    uint32_t number;
     lend_all(fr, fr_length, kept, i_length, o_length);
     r = pebrassola_deliver(place(&image.proved), i_length, port, place(&in.proved), fr_length, place(&out.proved), o_length);
     m = model_deliver(place(&image.plain), i_length, port, place(&in.plain), fr_length, place(&out.plain), o_length);
-    return compare("deliver", r.number, r.records, m, kept);
+    number = compare("deliver", r.number, r.records, m, kept);
+    if (number == 0 && fr[0] == 2 && get4(fr + 4) == 0 && port != get4(kept + 4)) counted.zeros[fr[1]]++;
+    return number;
 }
 
 static uint32_t read_clock(uint8_t *kept, size_t i_length)
@@ -74,16 +77,26 @@ static size_t make_form(uint8_t *f, unsigned n, unsigned faults)
     return 8 + 4 * (size_t)n;
 }
 
+/* byte 1: for an echo a broadcast's and an answer's as often, now and then one that the kind may not have */
+static unsigned make_flag(unsigned kind)
+{
+    static const uint8_t wrong[] = {1, 2, 3, 128, 254, 255};
+    if (any(16) == 0) return wrong[any(sizeof wrong)];
+    return kind == 2 ? any(2) : 0;
+}
+
 static void make_frame(uint8_t *b, const uint8_t *kept)
 {
     static const uint32_t far[] = {0, 1, 2, 62, 63, 64, 65, 66, 1000, 3999999998u, 3999999999u, 4000000000u, 4000000001u, 0xFFFFFFFFu};
     uint32_t k = get4(kept + 8), tick;
     memset(b, 0, 8);
     b[0] = (uint8_t)(1 + any(2));
-    switch (any(8)) {
+    b[1] = (uint8_t)make_flag(b[0]);
+    switch (any(9)) {
     case 0: tick = far[any(sizeof far / sizeof far[0])]; break;
     case 1: tick = k + far[any(9)]; break;
     case 2: tick = k - far[any(9)]; break;
+    case 3: tick = 0; break;
     default: tick = k + any(5) - (k > 1 ? 2 : 0); break;
     }
     put4(b + 4, tick);
@@ -152,7 +165,7 @@ static void random_image(unsigned n, unsigned faults)
     if (k > 4000000000u && any(20)) k = 4000000000u;
     last = k && any(3) == 0 ? k - 1 : k;
     set_clock(kept, any(4) != 0, k, last);
-    if (read_clock(kept, size) != 8) sound_images++;
+    if (read_clock(kept, size) != 8) counted.sound_images++;
     for (unsigned s = 0; s < 4; s++) {
         make_frame(fr, kept);
         deliver(kept, size, get4(f + 8 + 4 * any(n)), fr, 8, 192);
@@ -218,7 +231,7 @@ static void empty_buffers(unsigned n, unsigned faults)
     nowhere = NULL;
 }
 
-unsigned long compare_nodes(void)
+struct node_calls compare_nodes(void)
 {
     forms(20000);
     for (unsigned n = 1; n <= 32; n++)
@@ -236,5 +249,5 @@ unsigned long compare_nodes(void)
     empty_buffers(1, 0);
     empty_buffers(4, 1);
     empty_buffers(32, 10);
-    return sound_images;
+    return counted;
 }

@@ -1,6 +1,6 @@
 /*
  * The header against the archive, by answers that the papers settle and with no model between: W1 to W9 of document 01, a sheet for A1
- * of document 02, and a call for each number.
+ * and frames for A2 of document 02, and a call for each number.
  * The archive puts an answer's fields where its own struct has them, and a C compiler knows only the header's struct: so each field is
  * looked at where its value is known and the other field's is another. Sizes, places and numbers are looked at when this is compiled,
  * unless CALLS_ALONE is defined: then the calls have to notice by themselves. Prints what is wrong and a count; ends with status 1
@@ -46,7 +46,8 @@ SETTLED(frames, PEBRASSOLA_FRAME_BYTES == 8 && PEBRASSOLA_LAST_TICK == 400000000
 SETTLED(outputs, PEBRASSOLA_RECORD_BYTES == 12 && PEBRASSOLA_OUT_BYTES == 192);
 #endif
 
-enum { INIT = 1, ECHO = 2 };
+/* bytes 0 and 1 of a frame, as one number: kind and flag (A2) */
+enum { INIT = 0x0100, ECHO = 0x0200, ECHO_ANSWER = 0x0201 };
 
 static uint8_t image[144], out[192];
 static size_t size = sizeof image, room = sizeof out; /* how much of the two is lent */
@@ -68,12 +69,17 @@ static void expect_bytes(const char *call, size_t from, const uint8_t *known, si
     printf("%s: the output from byte %u on is not what the papers say\n", call, (unsigned)from);
 }
 
+static void put_frame(uint8_t *frame, unsigned kind, uint32_t tick)
+{
+    put4(frame, (uint32_t)kind << 16);
+    put4(frame + 4, tick);
+}
+
 static void expect_record(const char *call, unsigned place, uint32_t to, unsigned kind, uint32_t tick)
 {
-    uint8_t record[12] = {0};
+    uint8_t record[12];
     put4(record, to);
-    record[4] = (uint8_t)kind;
-    put4(record + 8, tick);
+    put_frame(record + 4, kind, tick);
     expect_bytes(call, 12 * place, record, sizeof record);
 }
 
@@ -89,9 +95,9 @@ static void boot(const char *call, unsigned place, unsigned byte, uint32_t known
 
 static void deliver(const char *call, uint32_t port, unsigned kind, uint32_t tick, uint32_t known, uint32_t known_records)
 {
-    uint8_t frame[8] = {(uint8_t)kind};
+    uint8_t frame[8];
     struct pebrassola_answer a;
-    put4(frame + 4, tick);
+    put_frame(frame, kind, tick);
     a = pebrassola_deliver(image, size, port, frame, sizeof frame, out, room);
     expect(call, a.number, a.records, known, known_records);
 }
@@ -110,9 +116,9 @@ static void story(void)
     read_clock("W1 read", 12, 0);
     deliver("W2", 11, ECHO, 0, 0, 0);
     deliver("W3", 22, ECHO, 0, 0, 1);
-    expect_record("W3", 0, 22, ECHO, 0);
+    expect_record("W3", 0, 22, ECHO_ANSWER, 0);
     deliver("W4", 33, ECHO, 0, 0, 2);
-    expect_record("W4", 0, 33, ECHO, 0);
+    expect_record("W4", 0, 33, ECHO_ANSWER, 0);
     expect_record("W4", 1, 0, INIT, 1);
     read_clock("W4 read", 12, 0);
     deliver("W5", 11, INIT, 1, 0, 0);
@@ -148,9 +154,32 @@ static void refusals(void)
     deliver("output of 191 bytes", 22, ECHO, 1, 7, 0);
     room = 192;
     deliver("port 12", 12, ECHO, 1, 9, 0);
-    deliver("kind 3", 22, 3, 1, 10, 0);
+    deliver("kind 3", 22, 0x0300, 1, 10, 0);
     deliver("after the last tick", 22, ECHO, 4000000001u, 11, 0);
     deliver("the last tick", 22, ECHO, 4000000000u, 0, 0);
+}
+
+/* ---- A2 */
+
+static void flags(void)
+{
+    boot("a fresh node", 0, 4, 0);
+    deliver("an answer", 22, ECHO_ANSWER, 0, 0, 0);
+    deliver("a broadcast after an answer", 22, ECHO, 0, 0, 1);
+    expect_record("a broadcast after an answer", 0, 22, ECHO_ANSWER, 0);
+    deliver("an answer again", 22, ECHO_ANSWER, 0, 0, 0);
+    deliver("an answer of its own", 11, ECHO_ANSWER, 0, 0, 0);
+    deliver("W4 by an answer", 33, ECHO_ANSWER, 0, 0, 1); /* 11, 22 and 33 hold echo 0, as they do in W4 */
+    expect_record("W4 by an answer", 0, 0, INIT, 1);
+    deliver("an answer of tick 5", 33, ECHO_ANSWER, 5, 0, 0);
+    deliver("another of tick 5", 44, ECHO_ANSWER, 5, 0, 1); /* f + 1 hold it: the node jumps to 4 */
+    expect_record("another of tick 5", 0, 0, ECHO, 4);
+    deliver("echo 0 when 4 was sent", 44, ECHO, 0, 0, 1);
+    expect_record("echo 0 when 4 was sent", 0, 44, ECHO_ANSWER, 4);
+    deliver("an init with flag 1", 22, 0x0101, 1, 10, 0);
+    deliver("an echo with flag 2", 22, 0x0202, 0, 10, 0);
+    deliver("an echo with flag 255", 22, 0x02FF, 0, 10, 0);
+    deliver("an answer after the last tick", 22, ECHO_ANSWER, 4000000001u, 11, 0);
 }
 
 /* ---- A1 */
@@ -224,6 +253,7 @@ int main(void)
 {
     story();
     refusals();
+    flags();
     sheets();
     printf("header: %u answers, %u wrong\n", answers, wrong);
     return wrong != 0;

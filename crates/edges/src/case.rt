@@ -20,7 +20,7 @@ ghost use Prim.Native.Nat.{_≤_};
 ghost use lib.ListN.{length};
 
 // Bytes of a head.
-const HEAD: usize = 44;
+const HEAD: usize = 48;
 
 // The numbers of a case. Each call takes those that it has a use for.
 pub struct Case {
@@ -30,6 +30,7 @@ pub struct Case {
     pub count: u32,
     pub serial: u32,
     pub kind: u32,
+    pub flag: u32,
     pub tick: u32,
     pub last: u32,
     pub top: u32,
@@ -38,17 +39,18 @@ pub struct Case {
 }
 
 fn head(b: &[u8]) -> Case
-    requires { ⌜ 44 ≤ length (now b) ⌝ }
+    requires { ⌜ 48 ≤ length (now b) ⌝ }
 {
     Case {
         room: word(b, 8) as usize,
         count: word(b, 12),
         serial: word(b, 16),
         kind: word(b, 20),
-        tick: word(b, 24),
-        last: word(b, 28),
-        top: word(b, 32),
-        value: long(b, 36),
+        flag: word(b, 24),
+        tick: word(b, 28),
+        last: word(b, 32),
+        top: word(b, 36),
+        value: long(b, 40),
     }
 }
 

@@ -1,4 +1,5 @@
-// The readers: number, n, f and own serial of a form; number, kind and tick of a frame. A refusal gives zeros behind its number.
+// The readers: number, n, f and own serial of a form; number, kind, flag and tick of a frame. A refusal gives zeros behind its
+// number.
 use crate::say;
 use forms::form::FormRead;
 use forms::form::read_form;
@@ -22,11 +23,11 @@ pub(crate) fn frame(last: u32, b: &[u8]) {
     match read_frame(b, last) {
         FrameRead::Refused(why) => {
             say::pair(why.number(), 0);
-            say::number(0);
+            say::pair(0, 0);
         }
         FrameRead::Taken(frame) => {
             say::pair(0, frame.kind);
-            say::number(frame.tick as u64);
+            say::pair(frame.flag, frame.tick);
         }
     }
 }

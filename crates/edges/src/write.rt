@@ -6,6 +6,7 @@ use crate::say;
 use fields::field::word;
 use forms::form::SERIALS;
 use forms::form::write_form;
+use forms::frame::Frame;
 use forms::frame::write_frame;
 use forms::roster::MOST_LINES;
 
@@ -34,7 +35,12 @@ pub(crate) fn run(framed: bool, case: Case, b: &[u8]) {
     let mut all = [0xeeu8; ROOM];
     let out = &mut all[0..room];
     let answer = if framed {
-        write_frame(case.kind, case.tick, case.last, out)
+        let frame = Frame {
+            kind: case.kind,
+            flag: case.flag,
+            tick: case.tick,
+        };
+        write_frame(frame, case.last, out)
     } else {
         let list = serials(b);
         let n = b.len() / 4 % (LONGEST + 1);

@@ -14,13 +14,14 @@ use Rattle.fields.specs.Kind.{INIT, ECHO}
 use Rattle.evidence.specs.Rows.{Row}
 use Rattle.evidence.specs.Holders.{holders, greatest}
 use Rattle.evidence.proofs.Greatest.{greatest-held}
-use Rattle.rules.specs.Record.{Outgoing, broadcast}
+use Rattle.rules.specs.Record.{Outgoing, Every, broadcast}
 use Rattle.rules.specs.Rules.{canR1, canR2, canR3, jumpTo, wakeAt, orJump, orWake, firstRule, atRest, woken}
 use Rattle.rules.specs.Rules.{fired, said, Settled, still, follows, firing, settle}
 use Rattle.rules.specs.Steps.{CanFire}
 use Rattle.rules.specs.declared.node.Node.{Node}
 use Rattle.rules.specs.declared.node.Rule.{Rule}
 use Rattle.rules.specs.declared.node.Rule.the-variants.{Rest, Echo, Tick, Jump, Wake}
+use Rattle.rules.proofs.Every.{every-append}
 
 less : (n : ℕ) → n ≡ suc n - 1
 less n = omega arith
@@ -117,9 +118,9 @@ rest-true rule e = elim (rest-or rule) [ inl rest ↦ rest | inr fires ↦ absur
 
 -- ---- one firing
 
--- what holds of one record and of none holds of one that is sent where a test says so
-pub one-or-none : (Q : List Outgoing → Type 0) (t : Bool) (r : Outgoing) → Q (r ∷ []) → Q [] → Q (cond t (r ∷ []) [])
-one-or-none Q true r one none = one
+-- what holds of one record where a test passes, and of none, holds of one that is sent where the test says so
+pub one-or-none : (Q : List Outgoing → Type 0) (t : Bool) (r : Outgoing) → (t ≡ true → Q (r ∷ [])) → Q [] → Q (cond t (r ∷ []) [])
+one-or-none Q true r one none = one refl
 one-or-none Q false r one none = none
 
 pub said-few : (p : Node) (rule : Rule) → length (said p rule) ≤ 1
@@ -129,7 +130,7 @@ said-few p Echo = omega arith
 said-few p Tick = omega arith
 said-few p (Jump l) = omega arith
 said-few p (Wake x) =
-    one-or-none (λ l. length l ≤ 1) (ltb (p .sent) (woken p x)) (broadcast ECHO (woken p x)) (omega arith) (omega arith)
+    one-or-none (λ l. length l ≤ 1) (ltb (p .sent) (woken p x)) (broadcast ECHO (woken p x)) (λ e. omega arith) (omega arith)
 
 -- two states of one node: who it is stays
 pub record Same (p q : Node) : Type 0 where
@@ -211,3 +212,23 @@ module _ (w last : ℕ) (rows : List Row) where
           → P (suc c) p (settle w last rows (suc c) p)
       go (inl e) ih = subst (P (suc c) p) (sym (settle-rest (suc c) p e)) (rests c p e)
       go (inr e) ih = subst (P (suc c) p) (sym (settle-fires c p e)) (fires c p e ih)
+
+  -- what holds of each record that the first rule says, seen from the node in the end, holds of each record of settling. `Kept` is what
+  -- firing keeps of the node
+  pub settle-every :
+      (Kept : Node → Type 0) (P : Node → Outgoing → Type 0)
+      → ((p : Node) → Kept p → Kept (fired p (firstRule w last rows p)))
+      → ((c : ℕ) (p : Node)
+      → Kept p
+      → let rule = firstRule w last rows p in
+      Every (P (settle w last rows c (fired p rule) .node)) (said p rule))
+      → (c : ℕ) (p : Node)
+      → Kept p
+      → let s = settle w last rows c p in
+      Every (P (s .node)) (s .records)
+  settle-every Kept P keeps says =
+      settle-induction (λ c p s. Kept p → Every (P (s .node)) (s .records)) (λ p k. tt) (λ c p e k. tt)
+      (λ c p e ih k.
+      let rule = firstRule w last rows p in
+      let next = settle w last rows c (fired p rule) in
+      every-append (P (next .node)) (said p rule) (next .records) (says c p k) (ih (keeps p k)))

@@ -1,9 +1,9 @@
--- Laws of records in bytes: they keep the length and the bytes behind them, and records behind records are one list of records; so
--- what joints send adds up.
+-- Laws of records in bytes: they keep the length and the bytes before and behind them, and records behind records are one list of
+-- records; so what joints send adds up.
 -- Assumes nothing.
 use mathlib.Core.Path.{_≡_, refl, sym, ap, _∙_}
 use mathlib.Core.List.{List, [], _∷_, _++_}
-use Prim.Native.Nat.{ℕ, suc, _+_, _*_, _≤_}
+use Prim.Native.Nat.{ℕ, suc, _+_, _*_, _≤_, _<_}
 use native.Mathlib.Nat.{add-zero}
 use native.Mathlib.Omega.{arith}
 use lib.ListN.{length, getD, length-append}
@@ -12,7 +12,7 @@ use Rattle.fields.proofs.Fields.{length-put, getD-put-other}
 use Rattle.rules.specs.Record.{Outgoing, recordSize, putRecord, putRecords}
 use Rattle.rules.specs.Steps.{SentAs}
 
-length-putRecord : (out : List ℕ) (i : ℕ) (r : Outgoing) → length (putRecord out i r) ≡ length out
+pub length-putRecord : (out : List ℕ) (i : ℕ) (r : Outgoing) → length (putRecord out i r) ≡ length out
 unfolding putRecord putFrame
 length-putRecord out i r = simp length-put
 
@@ -21,15 +21,17 @@ unfolding putRecords
 length-putRecords out i [] = refl
 length-putRecords out i (r ∷ rs) = length-putRecords (putRecord out i r) (i + recordSize) rs ∙ length-putRecord out i r
 
--- a byte behind a record
-getD-putRecord-after : (out : List ℕ) (i : ℕ) (r : Outgoing) (j : ℕ) →
-    i + recordSize ≤ j →
+-- a byte outside a record
+getD-putRecord-other : (out : List ℕ) (i : ℕ) (r : Outgoing) (j : ℕ) →
+    ((k : ℕ) → k < recordSize → j ≡ i + k → ⊥) →
     getD (putRecord out i r) j 0 ≡ getD out j 0
 unfolding putRecord putFrame
-getD-putRecord-after out i r j p =
-    getD-put-other 4 _ (i + 4 + 4) _ j (λ k q e. omega arith) ∙ getD-put-other 2 _ (i + 4 + 2) _ j (λ k q e. omega arith)
-    ∙ getD-put-other 1 _ (i + 4 + 1) _ j (λ k q e. omega arith) ∙ getD-put-other 1 _ (i + 4) _ j (λ k q e. omega arith)
-    ∙ getD-put-other 4 _ i _ j (λ k q e. omega arith)
+getD-putRecord-other out i r j far =
+    getD-put-other 4 _ (i + 4 + 4) _ j (λ k q e. far (8 + k) (omega arith) (omega arith))
+    ∙ getD-put-other 2 _ (i + 4 + 2) _ j (λ k q e. far (6 + k) (omega arith) (omega arith))
+    ∙ getD-put-other 1 _ (i + 4 + 1) _ j (λ k q e. far (5 + k) (omega arith) (omega arith))
+    ∙ getD-put-other 1 _ (i + 4) _ j (λ k q e. far (4 + k) (omega arith) (omega arith))
+    ∙ getD-put-other 4 _ i _ j (λ k q e. far k (omega arith) e)
 
 -- a byte behind the records
 pub getD-putRecords-after : (out : List ℕ) (i : ℕ) (rs : List Outgoing) (j : ℕ) →
@@ -38,7 +40,14 @@ pub getD-putRecords-after : (out : List ℕ) (i : ℕ) (rs : List Outgoing) (j :
 unfolding putRecords
 getD-putRecords-after out i [] j p = refl
 getD-putRecords-after out i (r ∷ rs) j p =
-    getD-putRecords-after (putRecord out i r) (i + recordSize) rs j (omega arith) ∙ getD-putRecord-after out i r j (omega arith)
+    getD-putRecords-after (putRecord out i r) (i + recordSize) rs j (omega arith) ∙ getD-putRecord-other out i r j (λ k q e. omega arith)
+
+-- a byte before them
+pub getD-putRecords-before : (out : List ℕ) (i : ℕ) (rs : List Outgoing) (j : ℕ) → j < i → getD (putRecords out i rs) j 0 ≡ getD out j 0
+unfolding putRecords
+getD-putRecords-before out i [] j p = refl
+getD-putRecords-before out i (r ∷ rs) j p =
+    getD-putRecords-before (putRecord out i r) (i + recordSize) rs j (omega arith) ∙ getD-putRecord-other out i r j (λ k q e. omega arith)
 
 pub put-records-none : (out : List ℕ) (i : ℕ) → putRecords out i [] ≡ out
 unfolding putRecords

@@ -19,7 +19,7 @@ enum-told : tie.Need-enum-told
 enum-told c = search needs
 
 returns : tie.Need-returns
-returns c = search needs
+returns c = rw (c .enum-told .given .1) refl
 
 fires : (rule : Rule) → OneOf (1 ∷ 2 ∷ 3 ∷ 4 ∷ []) (tagOf the-type rule) → false ≡ atRest rule
 fires Rest k = absurd (⊎-elim (λ e. omega arith) (⊎-elim (λ e. omega arith) (⊎-elim (λ e. omega arith) (λ e. omega arith))) k)

@@ -9,7 +9,7 @@ use Prim.Native.Nat.{ℕ, _+_, _^_, _≤_, _<_}
 use native.Mathlib.Omega.{arith}
 use lib.ListN.{length, getD, take, drop}
 use lib.Seq.{getD-take, length-take-le}
-use Rattle.fields.specs.Field.{field, putField, Bytes}
+use Rattle.fields.specs.Field.{field, Bytes}
 use Rattle.forms.specs.Form.{WriteTold}
 use Rattle.forms.specs.Frame.{frameSize, knownHead, frameAt, frameNumber, frameTold}
 use Rattle.forms.specs.Frame.{Narrow, putFrame, frameWritten, frameWriteNumber}

@@ -14,4 +14,5 @@ pub mod SoundImages
 pub mod Stays
 pub mod Taken
 pub mod Theorems
+pub mod Traffic
 pub mod Worked

@@ -8,7 +8,7 @@ use Prim.Native.Nat.{ℕ, suc, _-_, _^_, _≤_, _<_}
 use native.Mathlib.Omega.{arith}
 use lib.ListN.{length, getD}
 use lib.Dec.{lit<, lit≤}
-use Rattle.fields.specs.Field.{field, Bytes}
+use Rattle.fields.specs.Field.{Bytes}
 use native.Mathlib.Nat.{one-le-pow}
 use Rattle.forms.specs.Form.{linesOf, faultsOf, ownOf, serialsPlace, serialsOf}
 use Rattle.forms.specs.Frame.{frameAt}

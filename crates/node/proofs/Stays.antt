@@ -63,7 +63,8 @@ module _ (w last : ℕ) (s : State) (port : ℕ) (frame : Frame) (wide : 0 < w) 
           roster =
               ap₂ (λ (f own : ℕ). rosterNumber f own (serialsIn (credited w s port frame))) (o .faults)
               (o .own)
-              ∙ ap (rosterNumber (s .node .faults) (s .node .own)) (serials-credited w port (frame .kind) (frame .tick) (s .rows)) ∙ h .roster;
+              ∙ ap (rosterNumber (s .node .faults) (s .node .own)) (serials-credited w port (frame .kind) (frame .tick) (s .rows))
+              ∙ h .roster;
           mode = o .mode;
           sent = o .sent;
           tick = o .tick;

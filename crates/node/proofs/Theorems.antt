@@ -1,33 +1,39 @@
 -- WHERE A READER STARTS. The customer's three demands about boot, deliver and read, one block for each call, at the layout and the last
 -- tick in service. What the words of a statement mean is in specs/: `booted`, `deliverOutcome` and `reading` in Calls, the rows of the
--- table of numbers in Table, what a call leaves in After, what was heard in Heard, a truck's whole life in Runs. That the code gives
--- just these outcomes, for every input, is the contract of each call (src/calls.rt). The proofs are short here and stand in the files
--- named.
+-- table of numbers in Table, what a call leaves in After, what was heard in Heard, what was sent and taken in Traffic, a truck's whole
+-- life in Runs; who answers whom in rules' Answering. That the code gives just these outcomes, for every input, is the contract of each
+-- call (src/calls.rt). The proofs are short here and stand in the files named.
 -- Assumes nothing.
 use mathlib.Core.Path.{_≡_, sym, ap, _∙_, subst}
 use mathlib.Core.Bool.{true}
-use mathlib.Core.Logic.{_↔_, _⊎_}
+use mathlib.Core.Logic.{_↔_, _≢_, _⊎_}
 use mathlib.Core.List.{List, [], _∷_, List·Memᴰ}
 use Prim.Native.Nat.{ℕ, _+_, _*_, _≤_, _<_}
+use native.Mathlib.Omega.{arith}
 use lib.ListN.{length, getD}
 use lib.Dec.{lit<}
 use Rattle.fields.specs.Field.{Bytes}
 use Rattle.fields.specs.Kind.{INIT, ECHO}
 use Rattle.forms.specs.Form.{linesOf, Reordered}
+use Rattle.forms.specs.Frame.{ANSWER, frameAt, frameWriteNumber}
 use Rattle.forms.specs.Table.{Says, Twice}
+use Rattle.forms.specs.declared.frame.Frame.{Frame}
 use Rattle.evidence.specs.Holders.{heldUnder}
 use Rattle.evidence.specs.Rows.{Row}
 use Rattle.evidence.specs.Serials.{serialsIn}
+use Rattle.rules.specs.Answering.{Asks, Broadcast, TheAnswer, answersIn, asksIn}
 use Rattle.rules.specs.Clock.{Ordered, Below}
 use Rattle.rules.specs.Delivery.{Delivered}
 use Rattle.sets.specs.History.{Sent, heard}
 use Rattle.sets.specs.Ticks.{Held}
 use Rattle.rules.specs.Describe.{window, lastTick}
-use Rattle.rules.specs.Record.{broadcast, recordSize, putRecords}
+use Rattle.rules.specs.Record.{Outgoing, Every, broadcast, recordSize, putRecords, recordsAt}
 use Rattle.rules.specs.Rules.{firstRule}
 use Rattle.rules.specs.Which.{Fires}
 use Rattle.rules.specs.declared.node.Node.{Node}
 use Rattle.rules.specs.declared.node.Rule.{Rule}
+use Rattle.rules.proofs.Answering.{delivered-unasked}
+use Rattle.rules.proofs.Every.{every-member}
 use Rattle.rules.proofs.Which.{which-says}
 use Rattle.node.specs.After.{Begins, Follows, InRow}
 use Rattle.node.specs.Answers.{outcomeBy, readingBy}
@@ -39,6 +45,7 @@ use Rattle.node.specs.Image.{layout, imageSize, rowsOf, nodeOf, stateOf,
 use Rattle.node.specs.Runs.{Call, life}
 use Rattle.node.specs.Sound.{SoundImage}
 use Rattle.node.specs.Table.{bootChecks, deliverChecks, readChecks}
+use Rattle.node.specs.Traffic.{sentOver, takenOver}
 use Rattle.node.specs.declared.calls.Answer.{Answer}
 use Rattle.node.specs.declared.calls.Reading.{Reading}
 use Rattle.node.proofs.Images.{state-again}
@@ -53,6 +60,7 @@ use Rattle.node.proofs.Outcomes.{boot-told, boot-done, boot-refused, de
 use Rattle.node.proofs.Outcomes.{read-done, read-refused}
 use Rattle.node.proofs.SoundImages.{in-service, boot-sound}
 use Rattle.node.proofs.SoundImages.{delivery-sound, delivery-ordered, delivery-firings, delivery-records, delivery-below}
+use Rattle.node.proofs.Traffic.{delivery-back, flag-of-the-answer, flag-of-the-destination, sends-taken, same-image, calls-modest}
 
 -- ---- Boot
 
@@ -194,6 +202,55 @@ module _ (image : List ℕ) (port : ℕ) (frame out : List ℕ) where
       subst (λ (p : Node). Below (p .tick) (step .records)) (sym (ap (λ s. s .node) (deliver-is-the-step bytes ok .state)))
       (delivery-below layout lastTick in-service (lit< tt) image port frame (length out) bytes (given ok))
 
+  -- ---- Who is answered (02, A2)
+
+  -- the records as the output bytes have them
+  abbrev sends : List Outgoing
+  sends = recordsAt (delivers .records) (delivers .out) 0
+
+  -- What is written reads back the same: they are the step's, flag and all
+  pub records-read-back :
+      Bytes image
+      → delivers .number ≡ 0
+      → sends ≡ step .records
+  records-read-back bytes ok =
+      rw (done ok) (delivery-back layout lastTick in-service (lit< tt) image port frame out bytes (given ok))
+
+  module _ (bytes : Bytes image) (ok : delivers .number ≡ 0) where
+    of-sends : (Holds : Outgoing → Type 0) → Every Holds (step .records) → Every Holds sends
+    of-sends Holds = subst (Every Holds) (sym (records-read-back bytes ok))
+
+    -- A record carries the flag exactly where it is the answer: to the port that asked, with the last echo sent before
+    pub flagged-is-the-answer : Every (λ r. (r .frame .flag ≡ ANSWER) ↔ TheAnswer (nodeOf image) port (frameAt frame 0) r) sends
+    flagged-is-the-answer = of-sends _ (flag-of-the-answer layout lastTick in-service (lit< tt) image port frame out bytes (given ok))
+
+    -- and exactly where it goes to one serial alone; what goes to all has none
+    pub flagged-goes-to-one : Every (λ r. (r .frame .flag ≡ ANSWER) ↔ (r .dest ≢ 0)) sends
+    flagged-goes-to-one = of-sends _ (flag-of-the-destination layout lastTick in-service (lit< tt) image port frame out bytes (given ok))
+
+    -- A frame that does not ask draws no answer; so an answer is never answered
+    pub unasked-unanswered : (Asks (frameAt frame 0) → ⊥) → Every Broadcast sends
+    unfolding deliveryOf
+    unasked-unanswered unasked = of-sends _ (delivered-unasked window lastTick (stateOf layout image) port (frameAt frame 0) unasked)
+
+    pub answer-never-answered : frameAt frame 0 .flag ≡ ANSWER → Every Broadcast sends
+    answer-never-answered flag = unasked-unanswered (λ asks. omega (arith, flag, asks .flag))
+
+    -- What a node sends the frame writer would write: 10 and 11 are never given for it
+    pub sends-what-is-taken : Every (λ r. frameWriteNumber lastTick (r .frame) ≡ 0) sends
+    sends-what-is-taken = of-sends _ (sends-taken layout lastTick in-service (lit< tt) image port frame out bytes (given ok))
+
+-- Evidence treats both alike: two frames that differ in the flag alone leave the same image
+pub flag-decides-no-evidence :
+    (image : List ℕ) (port : ℕ) (frame other out : List ℕ)
+    → delivers image port frame out .number ≡ 0
+    → delivers image port other out .number ≡ 0
+    → frameAt frame 0 .kind ≡ frameAt other 0 .kind
+    → frameAt frame 0 .tick ≡ frameAt other 0 .tick
+    → delivers image port frame out .image ≡ delivers image port other out .image
+flag-decides-no-evidence image port frame other out ok ok′ kind tick =
+    rw (done image port frame out ok, done image port other out ok′) (same-image layout lastTick image port frame other kind tick)
+
 -- ---- Read
 
 module _ (image : List ℕ) where
@@ -269,6 +326,31 @@ pub clock-never-falls :
     → (reads (imageLeft layout lastTick image calls) .number ≡ 0)
     × (reads image .clock ≤ reads (imageLeft layout lastTick image calls) .clock)
 clock-never-falls = calls-later layout lastTick in-service (lit< tt)
+
+-- ---- Answers (02, A2), over any calls from any senders, refused ones among them
+
+module _ (image : List ℕ) (calls : List Call) (bytes : Bytes image) where
+  -- Nothing that a node sends after its boot message asks for an answer: no echo 0 goes out without the flag
+  pub nothing-sent-asks : Every (λ r. Asks (r .frame) → ⊥) (sentOver layout lastTick image calls)
+  nothing-sent-asks = calls-modest layout lastTick in-service (lit< tt) image calls bytes .silent
+
+  -- The line does not fill: the answers sent are at most as many as the (echo, 0) without the flag that were taken
+  pub answers-are-few :
+      answersIn (sentOver layout lastTick image calls)
+      ≤ asksIn (takenOver layout lastTick image calls)
+  answers-are-few = calls-modest layout lastTick in-service (lit< tt) image calls bytes .few
+
+  -- So two nodes do not keep each other busy: a frame that one of them sent draws no answer from any other
+  pub sent-draws-no-answer :
+      (other : List ℕ) (port : ℕ) (frame out : List ℕ) (r : Outgoing)
+      → Bytes other
+      → deliverOutcome layout lastTick other port frame out .number ≡ 0
+      → List·Memᴰ r (sentOver layout lastTick image calls)
+      → frameAt frame 0 ≡ r .frame
+      → Every Broadcast (sends other port frame out)
+  sent-draws-no-answer other port frame out r bytes′ ok sent same =
+      unasked-unanswered other port frame out bytes′ ok
+      (subst (λ (f : Frame). Asks f → ⊥) (sym same) (every-member (λ r. Asks (r .frame) → ⊥) nothing-sent-asks sent))
 
 -- ---- Demand 3. Two forms alike in all but the line order of their serials: the same is seen after each call, for ever
 

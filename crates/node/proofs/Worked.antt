@@ -147,8 +147,8 @@ settled-examples :
       with-69 = 69 ∷ 68 ∷ 67 ∷ 6 ∷ [];
       with-70 = 70 ∷ 69 ∷ 68 ∷ [];
     }
-unfolding turned onwards ticksBelow play booted bootNumber freshState deliverOutcome portNumber deliverNumber deliveryOf imageAfter formNumber
-    frameNumber rosterNumber count twins soundImage soundState fixedHeader stateOf nodeOf putState putNode putFixed putClock
+unfolding turned onwards ticksBelow play booted bootNumber freshState deliverOutcome portNumber deliverNumber deliveryOf imageAfter
+    formNumber frameNumber rosterNumber count twins soundImage soundState fixedHeader stateOf nodeOf putState putNode putFixed putClock
     freshRows field putField words putFrame putRecord putRecords rowsAt rowAt setAt putRows putRow putSet properRows properSet
     proper delivered settled answer settle firing firstRule fired said credit creditOf creditRow setOf holders heldUnder greatest
     bestAmong bestOf firstDown holds bit insert insertAll raised marked run added add

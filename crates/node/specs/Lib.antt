@@ -6,3 +6,4 @@ pub mod Image
 pub mod Runs
 pub mod Sound
 pub mod Table
+pub mod Traffic

@@ -6,7 +6,7 @@ use Prim.Native.Nat.{ℕ, _+_, _≤_, _<_}
 use native.Mathlib.Omega.{arith}
 use Rattle.fields.specs.Kind.{INIT, ECHO}
 use Rattle.forms.specs.declared.frame.Frame.{Frame}
-use Rattle.evidence.specs.Rows.{Row, credit}
+use Rattle.evidence.specs.Rows.{Row}
 use Rattle.evidence.proofs.Greatest.{greatest-held}
 use Rattle.evidence.proofs.Growth.{AllKept, credit-kept, held-bounded}
 use Rattle.rules.specs.Clock.{InOrder, Ordered}
@@ -40,8 +40,11 @@ module _ (w last : ℕ) (rows : List Row) (sets : AllKept w last rows) where
       omega arith)
 
 -- 003's own words: k never falls, active stays active, and the roster stays
-module _ (w last : ℕ) (s : State) (port : ℕ) (frame : Frame) (wide : 0 < w) (sets : AllKept w last (s .rows)) (late : frame .tick ≤ last) where
+module _
+    (w last : ℕ) (s : State) (port : ℕ) (frame : Frame)
+    (wide : 0 < w) (sets : AllKept w last (s .rows)) (late : frame .tick ≤ last) where
   pub delivered-ordered : InOrder last (s .node) → Ordered last (s .node) (delivered w last s port frame .state .node)
   unfolding delivered settled
   delivered-ordered =
-      settle-ordered w last (credited w s port frame) (credit-kept w last port (frame .kind) (frame .tick) (s .rows) wide late sets) mostFirings (s .node)
+      settle-ordered w last (credited w s port frame)
+      (credit-kept w last port (frame .kind) (frame .tick) (s .rows) wide late sets) mostFirings (s .node)

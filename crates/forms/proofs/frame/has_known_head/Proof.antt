@@ -1,9 +1,9 @@
 -- `frame::has_known_head` meets its contract: the three cases of the kind.
 -- Assumes nothing.
-use mathlib.Core.Path.{_≡_, refl, sym}
+use mathlib.Core.Path.{refl, sym}
 use mathlib.Core.Bool.{or-false}
 use lib.Dec.{eqb}
-use borrow.Author.Tests.{eq-eqb, ne-eqb}
+use borrow.Author.Tests.{ne-eqb}
 use Rattle.fields.specs.Kind.{INIT, ECHO}
 use Rattle.forms.specs.Frame.{BROADCAST}
 use Rattle.forms.proofs.frame.has_known_head.Statement.{statement}

@@ -59,10 +59,12 @@ same-length c = search needs
 returns : tie.Need-returns
 unfolding putFrame
 returns c =
-    let entry = c .before .before .before .before .before .before .before .before .before .before .before in
+    let head = c .before .before .before .before .before .before in
+    let start = head .before .before .before .before .before in
+    let a = start .args in
     c .before .before .put-word2 .ensures
-    ∙ ap (λ (out : List ℕ). putField 4 out (entry .args .i + 4) (entry .args .frame .tick))
-    (c .before .before .before .before .before .before .put-word .ensures ∙ put-head (now (entry .args .out)) (entry .args .i) (entry .args .frame) (entry .pre .1))
+    ∙ ap (λ (out : List ℕ). putField 4 out (a .i + 4) (a .frame .tick))
+    (head .put-word .ensures ∙ put-head (now (a .out)) (a .i) (a .frame) (start .pre .1))
 
 pub put-frame-spec : {M : Type 1} → statement M
 put-frame-spec =

@@ -48,7 +48,9 @@ shared-slice-read-if4 : tie.Need-shared-slice-read-if4
 shared-slice-read-if4 c = search needs
 
 -- past the test of kind and flag they are known
-head : (c : tie.Else2) → let b = now (c .before .before .before .before .before .before .args .b) in knownHead (getD b 0 0) (getD b 1 0) ≡ true
+head : (c : tie.Else2) →
+    let b = now (c .before .before .before .before .before .before .args .b) in
+    knownHead (getD b 0 0) (getD b 1 0) ≡ true
 head c = sym (c .before .has-known-head .ensures) ∙ not-false (c .before .has-known-head .result) (c .if2 .left)
 
 returns-3 : tie.Need-returns-3
@@ -64,7 +66,8 @@ word-requires : tie.Need-word-requires
 word-requires c κs = search needs
 
 -- past the tests of the bytes the frame has its shape
-shaped : (c : tie.Else4) → misshapen (now (c .before .before .before .before .before .before .before .before .before .before .args .b)) ≡ false
+shaped : (c : tie.Else4) →
+    misshapen (now (c .before .before .before .before .before .before .before .before .before .before .args .b)) ≡ false
 shaped c =
     let b = now (c .before .before .before .before .before .before .before .before .before .before .args .b) in
     let last : not (eqb (getD b 3 0) 0) ≡ false = c .if4 .left in

@@ -130,7 +130,12 @@ done : (c : tie.After-put-broadcast) →
     let known = c .before .before .before .before .before .before .before .before .before .before .before .before .before in
     let a = known .before .before .before .before .before .before .before .before .args in
     booted layout (now (a .form)) (now (a .image)) (now (a .out))
-    ≡ record { number = 0; records = 1; image = c .before .before .before .before .put-fresh-rows .last .0; out = c .put-broadcast .last .0 }
+    ≡ record {
+      number = 0;
+      records = 1;
+      image = c .before .before .before .before .put-fresh-rows .last .0;
+      out = c .put-broadcast .last .0;
+    }
 unfolding booted bootNumber freshState putState
 done c =
     let rows = c .before .before .before .before in

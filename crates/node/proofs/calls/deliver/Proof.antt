@@ -2,7 +2,7 @@
 -- which is what the engine asks, and the stores are the definition's.
 -- Assumes nothing.
 use borrow.Author.Needs.{needs}
-use mathlib.Core.Path.{_≡_, refl, sym, ap, _∙_}
+use mathlib.Core.Path.{_≡_, sym, ap, _∙_}
 use mathlib.Core.List.{List}
 use native.Mathlib.Omega.{arith}
 use denote.Ref.{now}
@@ -11,7 +11,6 @@ use lib.Dec.{lit<}
 use Prim.Native.Nat.{ℕ, _≤_}
 use borrow.Author.Tests.{eqb-false, ne-eqb}
 use Rattle.forms.specs.Frame.{frameAt, frameNumber}
-use Rattle.forms.specs.declared.frame.Frame.{Frame}
 use Rattle.forms.proofs.Told.{refusal, first-given}
 use Rattle.node.specs.Calls.{refused, portNumber, deliverNumber, deliveryOf, imageAfter, deliverOutcome}
 use Rattle.rules.specs.Describe.{window, lastTick}
@@ -130,7 +129,8 @@ done c =
     let node = c .before .before .before in
     let whole = node .before .before .before in
     let read = whole .before .before in
-    rw (node .read-node .ensures, told-frame lastTick _ _ _ (read .read-frame .ensures) (whole .taken .given .1) .1) at (c .deliver .ensures)
+    rw (node .read-node .ensures, told-frame lastTick _ _ _ (read .read-frame .ensures) (whole .taken .given .1) .1) at
+    (c .deliver .ensures)
 
 -- the mode is still 0 or 1
 mode : (c : tie.After-deliver) → c .deliver .result .node .mode ≤ 1

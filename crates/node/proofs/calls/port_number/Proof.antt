@@ -2,11 +2,11 @@
 -- lie inside the buffer.
 -- Assumes nothing.
 use borrow.Author.Needs.{needs}
-use mathlib.Core.Path.{_≡_, sym, _∙_}
-use mathlib.Core.Bool.{true}
+use mathlib.Core.Path.{_≡_, refl, sym, _∙_}
+use mathlib.Core.Bool.{true, cond}
 use native.Mathlib.Omega.{arith}
 use denote.Ref.{now}
-use lib.Dec.{lit≤}
+use lib.Dec.{eqb, lit≤}
 use borrow.Author.Tests.{lt-ltb, le-ltb, eq-eqb, ne-eqb, not-true, not-false}
 use Rattle.node.specs.Calls.{portNumber}
 use Rattle.rules.specs.Describe.{room, lastTick}
@@ -51,27 +51,20 @@ count-word-requires c κs =
     let h = facts (c .before) in
     (lit≤ tt, rows-inside layout (now (c .before .before .before .before .before .args .image)) (h .fixed) (h .stated))
 
-returns-3 : tie.Need-returns-3
+-- past the tests of room and image the count of the port's rows decides
+counted : (c : tie.After-count-word) →
+    let a = c .before .before .before .before .before .before .args in
+    portNumber layout lastTick (now (a .image)) (a .port) (a .room) ≡ cond (eqb (c .count-word .result) 0) 9 0
 unfolding portNumber
-returns-3 c =
-    let a = c .before .before .before .before .before .before .before .args in
-    rw (
-      le-ltb (a .room) room (c .before .before .before .before .before .if1 .left),
-      sound (c .before .before .before),
-      ← c .before .count-word .ensures .0,
-      eq-eqb (c .before .count-word .result) 0 (c .if3 .taken),
-    )
+counted c =
+    let a = c .before .before .before .before .before .before .args in
+    rw (le-ltb (a .room) room (c .before .before .before .before .if1 .left), sound (c .before .before), ← c .count-word .ensures .0)
+
+returns-3 : tie.Need-returns-3
+returns-3 c = rw (counted (c .before), eq-eqb (c .before .count-word .result) 0 (c .if3 .taken)) refl
 
 returns-4 : tie.Need-returns-4
-unfolding portNumber
-returns-4 c =
-    let a = c .before .before .before .before .before .before .before .args in
-    rw (
-      le-ltb (a .room) room (c .before .before .before .before .before .if1 .left),
-      sound (c .before .before .before),
-      ← c .before .count-word .ensures .0,
-      ne-eqb (c .before .count-word .result) 0 (c .if3 .left),
-    )
+returns-4 c = rw (counted (c .before), ne-eqb (c .before .count-word .result) 0 (c .if3 .left)) refl
 
 pub port-number-spec : {M : Type 1} → statement M
 port-number-spec =

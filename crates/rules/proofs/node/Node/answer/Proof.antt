@@ -25,8 +25,10 @@ asked c = sym (c .before .asks-answer .ensures) ∙ c .if1 .taken
 returns : tie.Need-returns
 unfolding answer
 returns c =
-    let a = c .before .before .before .before .before .before .before .before .before .args in
-    rw (asked (c .before .before .before .before .before .before), ne-eqb (a .port) (a .self .own) (c .before .before .before .before .if2 .taken)) (sent-one (c .before .before .put-record .ensures))
+    let other = c .before .before .before .before in
+    let passed = other .before .before in
+    let a = passed .before .before .before .args in
+    rw (asked passed, ne-eqb (a .port) (a .self .own) (other .if2 .taken)) (sent-one (c .before .before .put-record .ensures))
 
 returns-2 : tie.Need-returns-2
 unfolding answer

@@ -58,8 +58,8 @@ kept c =
     let a = start .args in
     rw (stored c)
     (credit-read-back maskBytes maskBits window refl (omega arith) (omega arith) (a .port) (a .frame .kind) (a .frame .tick)
-    (a .self .lines) (now (a .b)) (a .i) (λ k. c .before .before .before .before .slice-known .given k .fits) (omega (arith, start .good .1 .1 .1 .1 .0))
-    (start .pre .rows .inside))
+    (a .self .lines) (now (a .b)) (a .i) (λ k. c .before .before .before .before .slice-known .given k .fits)
+    (omega (arith, start .good .1 .1 .1 .1 .0)) (start .pre .rows .inside))
 
 -- the count of answers is the delivery's
 answered : (c : tie.After-answer) →

@@ -32,7 +32,7 @@ use Rattle.rules.specs.Rules.{firstRule}
 use Rattle.rules.specs.Which.{Fires}
 use Rattle.rules.specs.declared.node.Node.{Node}
 use Rattle.rules.specs.declared.node.Rule.{Rule}
-use Rattle.rules.proofs.Answering.{delivered-unasked}
+use Rattle.rules.proofs.Answering.{delivered-answered, delivered-unasked}
 use Rattle.rules.proofs.Every.{every-member}
 use Rattle.rules.proofs.Which.{which-says}
 use Rattle.node.specs.After.{Begins, Follows, InRow}
@@ -227,6 +227,16 @@ module _ (image : List ℕ) (port : ℕ) (frame out : List ℕ) where
     -- and exactly where it goes to one serial alone; what goes to all has none
     pub flagged-goes-to-one : Every (λ r. (r .frame .flag ≡ ANSWER) ↔ (r .dest ≢ 0)) sends
     flagged-goes-to-one = of-sends _ (flag-of-the-destination layout lastTick in-service (lit< tt) image port frame out bytes (given ok))
+
+    -- Another serial that asks is answered, once
+    pub asked-is-answered :
+        Asks (frameAt frame 0)
+        → port ≢ nodeOf image .own
+        → answersIn sends ≡ 1
+    unfolding deliveryOf stateOf
+    asked-is-answered asked other =
+        ap answersIn (records-read-back bytes ok)
+        ∙ delivered-answered window lastTick (stateOf layout image) port (frameAt frame 0) asked other
 
     -- A frame that does not ask draws no answer; so an answer is never answered
     pub unasked-unanswered : (Asks (frameAt frame 0) → ⊥) → Every Broadcast sends

@@ -2,12 +2,12 @@
 -- asks, so that an answer draws none.
 -- Assumes nothing.
 use mathlib.Core.Path.{_≡_, refl}
-use mathlib.Core.Logic.{_↔_, _⊎_, inl, inr, Iff·trans}
+use mathlib.Core.Logic.{_↔_, _≢_, _⊎_, inl, inr, Iff·trans}
 use mathlib.Core.Bool.{true, cond, not, _&&_}
 use mathlib.Core.List.{List, [], _∷_, _++_}
 use Prim.Native.Nat.{ℕ, _+_, _≤_}
 use native.Mathlib.Omega.{arith}
-use borrow.Author.Tests.{ltb-true}
+use borrow.Author.Tests.{ltb-true, ne-eqb}
 use lib.Dec.{ltb, eqb}
 use Rattle.fields.specs.Kind.{ECHO}
 use Rattle.forms.specs.Frame.{BROADCAST}
@@ -171,3 +171,10 @@ module _ (w last : ℕ) (s : State) (port : ℕ) (frame : Frame) where
         answered (λ l. answersIn l ≤ cond (asks frame) 1 0) (s .node) port frame
             (λ a. rw (asks-says frame .1 (a .asked)) (omega arith)) (omega arith),
       )
+
+  -- another serial that asks is answered, once
+  pub delivered-answered : Asks frame → port ≢ s .node .own → answersIn (delivered w last s port frame .records) ≡ 1
+  unfolding delivered settled answer answersIn
+  delivered-answered asked other =
+      rw (asks-says frame .1 asked, ne-eqb port (s .node .own) other)
+      (omega (arith, broadcasts-answer-none others (settled-broadcasts w last rows mostFirings (s .node))))

@@ -22,6 +22,10 @@ pub record Delivered : Type 0 where
   pub records : List Outgoing
   pub firings : ℕ
 
+-- step 1: evidence does not look at the flag
+abbrev pub credited : ℕ → State → ℕ → Frame → List Row
+credited w s port frame = credit w port (frame .kind) (frame .tick) (s .rows)
+
 -- (echo, 0) without the flag asks for an answer; an answer is never answered (02, A2)
 abbrev pub asks : Frame → Bool
 asks frame = eqb (frame .kind) ECHO && (eqb (frame .tick) 0 && eqb (frame .flag) BROADCAST)
@@ -29,10 +33,6 @@ asks frame = eqb (frame .kind) ECHO && (eqb (frame .tick) 0 && eqb (frame .flag)
 -- step 2: another serial that asks draws an answer to that serial alone, with the last echo sent before this delivery
 unfoldable pub answer : Node → ℕ → Frame → List Outgoing
 answer p port frame = cond (asks frame && not (eqb port (p .own))) (answerTo port (p .sent) ∷ []) []
-
--- step 1: evidence does not look at the flag
-abbrev pub credited : ℕ → State → ℕ → Frame → List Row
-credited w s port frame = credit w port (frame .kind) (frame .tick) (s .rows)
 
 -- step 3 over the evidence after step 1
 unfoldable pub settled : ℕ → ℕ → State → ℕ → Frame → Settled

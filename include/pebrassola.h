@@ -58,7 +58,7 @@ enum pebrassola_number {
     PEBRASSOLA_OUT_ROOM = 7,      /* output shorter than 192 bytes; for write_sheet, than the sheet */
     PEBRASSOLA_IMAGE = 8,         /* image buffer shorter than 32 or than its stated size, or image not sound */
     PEBRASSOLA_PORT = 9,          /* port serial not in the roster */
-    PEBRASSOLA_FRAME = 10,        /* frame not 8 long, kind not 1 or 2, flag not 0 (for an echo: not 0 or 1), or bytes 2..3 not zero */
+    PEBRASSOLA_FRAME = 10,        /* frame not 8 long, kind not 1 or 2, flag not 0 for init or above 1 for echo, or bytes 2..3 not zero */
     PEBRASSOLA_FRAME_TICK = 11,   /* tick above the last tick */
     PEBRASSOLA_PASSIVE = 12,      /* the node is passive: it has no clock yet */
     PEBRASSOLA_SHEET_LAYOUT = 14, /* sheet shorter than 4, offset not 4, more than 200 entries, or length not 4 + 12 x count; for
@@ -110,9 +110,10 @@ struct pebrassola_answer pebrassola_boot(const uint8_t *form, size_t form_length
  * wiring delivers them back. Puts what the node has to send at the front of the output, at most 16 records. Gives 7, 8, 9, 10, 11 in
  * this order. Only mode, clock, last echo and the port's row of the image change.
  *
- * Echo 0 with flag 0 from another controller asks where the node stands: the first record is then an answer to it, an echo of the last
- * tick that the node echoed, with flag 1. A frame with flag 1 is never answered, so two controllers do not answer each other forever.
- * Apart from that a node makes no difference between an echo with flag 0 and one with flag 1. All that goes to all has flag 0.
+ * Echo 0 with flag 0 from another controller asks where the node stands: the first record is then an answer to it, with flag 1 and the
+ * last echo that the node had sent before this call. A frame with flag 1 is never answered, so two controllers do not answer each other
+ * forever. Apart from the answer the flag of an echo makes no difference. All that goes to all has flag 0. Firmware from before A2
+ * refuses a frame with flag 1 (number 10): controllers of one truck carry the same version.
  */
 struct pebrassola_answer pebrassola_deliver(uint8_t *image, size_t image_length, uint32_t port, const uint8_t *frame,
                                             size_t frame_length, uint8_t *out, size_t out_length);

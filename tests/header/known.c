@@ -1,6 +1,6 @@
 /*
  * The header against the archive, by answers that the papers settle and with no model between: W1 to W9 of document 01, a sheet for A1
- * and frames for A2 of document 02, and a call for each number.
+ * of document 02, frames and two idle controllers for A2, and a call for each number.
  * The archive puts an answer's fields where its own struct has them, and a C compiler knows only the header's struct: so each field is
  * looked at where its value is known and the other field's is another. Sizes, places and numbers are looked at when this is compiled,
  * unless CALLS_ALONE is defined: then the calls have to notice by themselves. Prints what is wrong and a count; ends with status 1
@@ -69,17 +69,17 @@ static void expect_bytes(const char *call, size_t from, const uint8_t *known, si
     printf("%s: the output from byte %u on is not what the papers say\n", call, (unsigned)from);
 }
 
-static void put_frame(uint8_t *frame, unsigned kind, uint32_t tick)
+static void put_frame(uint8_t *frame, unsigned head, uint32_t tick)
 {
-    put4(frame, (uint32_t)kind << 16);
+    put4(frame, (uint32_t)head << 16);
     put4(frame + 4, tick);
 }
 
-static void expect_record(const char *call, unsigned place, uint32_t to, unsigned kind, uint32_t tick)
+static void expect_record(const char *call, unsigned place, uint32_t to, unsigned head, uint32_t tick)
 {
     uint8_t record[12];
     put4(record, to);
-    put_frame(record + 4, kind, tick);
+    put_frame(record + 4, head, tick);
     expect_bytes(call, 12 * place, record, sizeof record);
 }
 
@@ -93,11 +93,11 @@ static void boot(const char *call, unsigned place, unsigned byte, uint32_t known
     expect(call, a.number, a.records, known, known == 0);
 }
 
-static void deliver(const char *call, uint32_t port, unsigned kind, uint32_t tick, uint32_t known, uint32_t known_records)
+static void deliver(const char *call, uint32_t port, unsigned head, uint32_t tick, uint32_t known, uint32_t known_records)
 {
     uint8_t frame[8];
     struct pebrassola_answer a;
-    put_frame(frame, kind, tick);
+    put_frame(frame, head, tick);
     a = pebrassola_deliver(image, size, port, frame, sizeof frame, out, room);
     expect(call, a.number, a.records, known, known_records);
 }
@@ -182,6 +182,46 @@ static void flags(void)
     deliver("an answer after the last tick", 22, ECHO_ANSWER, 4000000001u, 11, 0);
 }
 
+/* two controllers that are up, and the frames under way between them */
+static const uint32_t serials[2] = {11, 22};
+static uint8_t images[2][144];
+static struct {
+    unsigned from, to;
+    uint8_t frame[8];
+} line[64];
+static unsigned carried, under_way;
+
+static void carry(unsigned from, uint32_t records)
+{
+    for (uint32_t i = 0; i < records; i++)
+        for (unsigned to = 0; to < 2; to++) {
+            uint32_t dest = get4(out + 12 * i);
+            if ((dest != 0 && dest != serials[to]) || carried + under_way == 64) continue;
+            line[carried + under_way].from = from;
+            line[carried + under_way].to = to;
+            memcpy(line[carried + under_way++].frame, out + 12 * i + 4, 8);
+        }
+}
+
+/* what A2 was asked for: each of the two hears both boot messages and one answer, six frames in all, and then the line is still */
+static void idle(void)
+{
+    for (unsigned i = 0; i < 2; i++) {
+        boot("one of two idle controllers", 7, serials[i], 0);
+        memcpy(images[i], image, sizeof image);
+        carry(i, 1);
+    }
+    while (under_way > 0) {
+        unsigned to = line[carried].to;
+        struct pebrassola_answer a = pebrassola_deliver(images[to], sizeof images[to], serials[line[carried].from], line[carried].frame,
+                                                        sizeof line[carried].frame, out, room);
+        carried++;
+        under_way--;
+        carry(to, a.records);
+    }
+    expect("two idle controllers: frames carried, and under way", carried, under_way, 6, 0);
+}
+
 /* ---- A1 */
 
 /* asks a pack by the sheet (7 from tick 10, ended at 20; 9 from tick 15, ended at 15) with one byte set */
@@ -254,6 +294,7 @@ int main(void)
     story();
     refusals();
     flags();
+    idle();
     sheets();
     printf("header: %u answers, %u wrong\n", answers, wrong);
     return wrong != 0;

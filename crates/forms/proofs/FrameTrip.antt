@@ -16,9 +16,9 @@ use Rattle.forms.specs.Frame.{Narrow, putFrame, frameWritten, frameWrite
 use Rattle.forms.specs.Table.{Given, frameChecks}
 use Rattle.forms.specs.declared.frame.Frame.{Frame}
 use Rattle.fields.proofs.Fields.{field-byte, field-take, field-put, field-put-other, put-field, length-put, take-put, drop-put}
-use Rattle.forms.proofs.Frames.{head-narrow, settled-head}
-use Rattle.forms.proofs.Meaning.{frame-told, frame-says, frame-writer-says}
-use Rattle.forms.proofs.RoundTrip.{settled, wrote, wrote-bytes, refused-bytes, kept-bytes}
+use Rattle.forms.proofs.Frames.{head-narrow, not-bad-head}
+use Rattle.forms.proofs.Meaning.{not-apart, frame-told, frame-says, frame-writer-says}
+use Rattle.forms.proofs.RoundTrip.{wrote, wrote-bytes, refused-bytes, kept-bytes}
 
 -- ---- a frame put at a place
 
@@ -108,7 +108,7 @@ module _ (last : ℕ) (frame : Frame) (out : List ℕ) (fits : frame .tick < 2 ^
   frame-back = front (putFrame out 0 frame) ∙ frame-there out 0 frame (sent .1) narrow fits
     where
       narrow : Narrow frame
-      narrow = head-narrow frame (settled-head _ _ (frame-writer-says last frame out .exactly 0 .0 ok .0))
+      narrow = head-narrow frame (not-bad-head _ _ (frame-writer-says last frame out .exactly 0 .0 ok .0))
 
   frame-number-back : frameNumber last bytes ≡ 0
   unfolding frameNumber bytes
@@ -166,10 +166,10 @@ frame-written-again last b out h e p =
     g = frame-says last b .exactly 0 .0 (frame-told last b ∙ e)
 
     size : length b ≡ frameSize
-    size = settled _ _ (λ n. g .0 (inl (inl (inl n))))
+    size = not-apart _ _ (λ n. g .0 (inl (inl (inl n))))
 
     zeros : field 2 b 2 ≡ 0
-    zeros = zero-bytes b .1 (settled _ _ (λ n. g .0 (inl (inr n))), settled _ _ (λ n. g .0 (inr n)))
+    zeros = zero-bytes b .1 (not-apart _ _ (λ n. g .0 (inl (inr n))), not-apart _ _ (λ n. g .0 (inr n)))
 
     ok : frameWritten last (frameAt b 0) out .number ≡ 0
     ok = frame-writer-says last (frameAt b 0) out .exactly 0 .1 (λ k. g .0 (inl (inl (inr k))), (g .1 .0, (omega (arith, size), refl)))

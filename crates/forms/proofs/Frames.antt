@@ -1,24 +1,19 @@
 -- Laws of a frame's kind and flag, shared by the reader and the writer.
 -- Assumes nothing.
 use mathlib.Core.Path.{_≡_, refl}
-use mathlib.Core.Bool.{Bool, true, false, not, false≢true}
+use mathlib.Core.Bool.{Bool, true, false, false≢true}
 use mathlib.Core.Logic.{_⊎_, inl, inr, ⊎-elim}
 use Prim.Native.Nat.{ℕ}
 use native.Mathlib.Omega.{arith}
-use borrow.Author.Tests.{not-false}
 use Rattle.fields.specs.Kind.{INIT, ECHO}
 use Rattle.forms.specs.Frame.{knownHead, Narrow}
 use Rattle.forms.specs.Table.{KnownHead, BadHead}
 use Rattle.forms.specs.declared.frame.Frame.{Frame}
 use Rattle.forms.proofs.Meaning.{Decides, head-says}
 
--- what a test that passes tells
-pub head-known : (kind flag : ℕ) → not (knownHead kind flag) ≡ false → KnownHead kind flag
-head-known kind flag e = head-says kind flag .0 (not-false (knownHead kind flag) e)
-
--- and where it is not so that it fails
-pub settled-head : (kind flag : ℕ) → (BadHead kind flag → ⊥) → KnownHead kind flag
-settled-head kind flag h = go (knownHead kind flag) (head-says kind flag)
+-- what is not bad is known
+pub not-bad-head : (kind flag : ℕ) → (BadHead kind flag → ⊥) → KnownHead kind flag
+not-bad-head kind flag h = go (knownHead kind flag) (head-says kind flag)
   where
     go : (t : Bool) → Decides t (KnownHead kind flag) → KnownHead kind flag
     go true d = d .0 refl

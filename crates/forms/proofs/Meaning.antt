@@ -91,6 +91,10 @@ less a b = (ltb-true a b, lt-ltb a b)
 pub equal : (a b : ℕ) → Decides (eqb a b) (a ≡ b)
 equal a b = (eqb-true a b, eq-eqb a b)
 
+-- numbers that are not apart are equal
+pub not-apart : (a b : ℕ) → (a ≢ b → ⊥) → a ≡ b
+not-apart a b h = elim (ℕ-discrete a b) [ yes e ↦ e | no n ↦ absurd (h n) ]
+
 pub opposite : (t : Bool) {C : Type 0} → Decides t C → Decides (not t) (C → ⊥)
 opposite true d = (λ e. absurd (false≢true e), λ n. absurd (n (d .0 refl)))
 opposite false d = (λ e c. false≢true (d .1 c), λ n. refl)

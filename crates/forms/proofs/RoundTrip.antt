@@ -1,12 +1,11 @@
--- What a writer wrote its reader gives back, and what a reader took its writer writes again byte for byte; bytes behind what is
--- written stay, and a refusal changes no byte.
+-- What the form writer wrote the form reader gives back, and what the reader took the writer writes again byte for byte; bytes behind
+-- a form stay, and a refusal changes no byte. In front the laws of writing that frames, sheets and logs share.
 -- Assumes nothing.
 use mathlib.Core.Path.{_≡_, refl, sym, ap, ap₂, _∙_}
-use mathlib.Core.Logic.{_≢_, inl, inr}
+use mathlib.Core.Logic.{inl, inr}
 use mathlib.Core.Bool.{Bool, true, false, cond}
 use mathlib.Core.List.{List, _++_}
 use Prim.Native.Nat.{ℕ, _+_, _^_, _≤_, _<_}
-use native.Mathlib.Decide.{ℕ-discrete}
 use native.Mathlib.Omega.{arith}
 use lib.ListN.{length, getD, take, drop, take-append-drop}
 use lib.Seq.{getD-take, length-take-le, take-all}
@@ -20,14 +19,11 @@ use Rattle.forms.specs.Table.{Given, formChecks}
 use Rattle.fields.proofs.Fields.{field-byte, field-take, field-put, field-put-other, put-field, length-put, take-put, drop-put}
 use Rattle.fields.proofs.Words.{Words, length-words, words-same, length-putWords, field-putWords-before, words-putWords, putWords-words}
 use Rattle.fields.proofs.Words.{take-putWords, drop-putWords}
-use Rattle.forms.proofs.Meaning.{form-told, form-says}
+use Rattle.forms.proofs.Meaning.{not-apart, form-told, form-says}
 use Rattle.forms.proofs.Rosters.{Limits, roster-limits}
 use Rattle.forms.proofs.Told.{form-length, form-roster}
 
 -- ---- what a writer answers
-
-pub settled : (a b : ℕ) → (a ≢ b → ⊥) → a ≡ b
-settled a b h = elim (ℕ-discrete a b) [ yes e ↦ e | no n ↦ absurd (h n) ]
 
 module _ (number size : ℕ) (before after : List ℕ) where
   -- with the two tests of `writeTold` as variables
@@ -234,7 +230,7 @@ form-written-again b out h e p =
     wrote-bytes (rosterNumber (faultsOf b) (ownOf b) (serialsOf b)) (formSize (length (serialsOf b))) out
     (putForm out (faultsOf b) (ownOf b) (serialsOf b)) b ok size
     (take-form out (faultsOf b) (ownOf b) (serialsOf b) b (omega (arith, size)) (omega (arith, size))
-    ∙ ap (take (formSize (length (serialsOf b)))) (form-self b h (settled _ _ (λ n. g .0 (inl (inr n))))))
+    ∙ ap (take (formSize (length (serialsOf b)))) (form-self b h (not-apart _ _ (λ n. g .0 (inl (inr n))))))
     (drop-form out (faultsOf b) (ownOf b) (serialsOf b))
   where
     g : Given (formChecks b) 0

@@ -19,10 +19,9 @@ pub const BROADCAST: u32 = 0;
 
 pub const ANSWER: u32 = 1;
 
+// The fields of a frame. The reader gives only a kind and a flag that go together; the writer judges those that it is given.
 pub struct Frame {
-    // INIT or ECHO
     pub kind: u32,
-    // BROADCAST, or ANSWER on an echo
     pub flag: u32,
     pub tick: u32,
 }
@@ -66,7 +65,8 @@ pub fn read_frame(b: &[u8], last: u32) -> FrameRead
     FrameRead::Taken(Frame { kind, flag, tick })
 }
 
-// Writes a frame over the bytes from i on: a joint, for writers that have judged kind, flag, tick and room.
+// Writes a frame over the bytes from i on: a joint, for writers that have judged kind, flag, tick and room. Kind and flag are the two
+// high bytes of the first word, the two zero bytes its low half.
 pub fn put_frame(out: &mut [u8], i: usize, frame: Frame)
     requires { ⌜ (i + frameSize ≤ length (now out)) × Narrow frame ⌝ }
     ensures { λ _. ⌜ now (out .exit) ≡ putFrame (now (out .entry)) i frame ⌝ }

@@ -4,7 +4,7 @@
 -- Assumes nothing.
 use mathlib.Core.Path.{_≡_, refl, sym, ap, _∙_}
 use mathlib.Core.Bool.{Bool, true, false, cond, false≢true}
-use mathlib.Core.List.{List, [], _∷_, List·Memᴰ, List·Memᴰ·not-nil}
+use mathlib.Core.List.{List, [], _∷_, _++_, List·Memᴰ, List·Memᴰ·not-nil}
 use mathlib.Core.List.List·Memᴰ.{List·Memᴰ·head}
 use Prim.Native.Nat.{ℕ, _<_}
 use native.Mathlib.Decide.{ℕ-discrete}
@@ -15,18 +15,20 @@ use Rattle.fields.specs.Field.{field, Bytes}
 use Rattle.forms.specs.Column.{count}
 use Rattle.sets.specs.History.{Sent, heard}
 use Rattle.sets.specs.Ticks.{Held}
-use Rattle.sets.proofs.Histories.{heard-same, heard-append}
+use Rattle.sets.proofs.Histories.{heard-same}
 use Rattle.sets.proofs.Members.{Proper}
 use Rattle.evidence.specs.Holders.{heldUnder}
 use Rattle.evidence.specs.Rows.{credit}
 use Rattle.evidence.specs.Serials.{serialsIn}
 use Rattle.evidence.proofs.Layouts.{serials-of-rows}
 use Rattle.evidence.proofs.Under.{Known, under-own, under-other, held-proper}
+use Rattle.rules.specs.Answering.{Arrival}
 use Rattle.rules.specs.Delivery.{State, delivered}
 use Rattle.node.specs.Calls.{Outcome, deliverNumber, deliveryOf, imageAfter, deliverOutcome}
-use Rattle.node.specs.Heard.{imageLeft, sentBy, acceptedBy, accepted}
+use Rattle.node.specs.Heard.{imageLeft, cameFrom, accepted}
 use Rattle.node.specs.Image.{Layout, headerSize, rowsOf, stateOf, soundImage}
 use Rattle.node.specs.Runs.{Call, Deliver, Read, called}
+use Rattle.node.specs.Traffic.{takenIn, takenOver}
 use Rattle.node.proofs.Images.{bytes-after}
 use Rattle.node.proofs.Outcomes.{deliver-done, deliver-refused}
 use Rattle.node.proofs.Sound.{sound-bytes}
@@ -38,22 +40,46 @@ use Rattle.sets.specs.Sets.{tickCount}
 abbrev held : Layout → List ℕ → ℕ → ℕ → Held
 held L image serial kind = heldUnder (rowsOf L image) serial kind
 
+-- kind and tick of a frame's bytes
+abbrev sentBy : List ℕ → Sent
+sentBy frame = record { kind = getD frame 0 0; tick = field 4 frame 4 }
+
 -- every frame of the first list stands in the second
 abbrev Within : List Sent → List Sent → Type 0
 Within frames others = (frame : Sent) → List·Memᴰ frame frames → List·Memᴰ frame others
 
+-- what is heard of frames is heard of the first of them, and then of the others
+heard-then : (w kind serial : ℕ) (s : Held) (xs ys : List Arrival) →
+    heard w kind s (cameFrom serial (xs ++ ys)) ≡ heard w kind (heard w kind s (cameFrom serial xs)) (cameFrom serial ys)
+unfolding cameFrom heard
+heard-then w kind serial s [] ys = refl
+heard-then w kind serial s (a ∷ xs) ys = go (eqb (a .port) serial) (λ next. heard-then w kind serial next xs ys)
+  where
+    go : (t : Bool) →
+        ((next : Held) →
+        heard w kind next (cameFrom serial (xs ++ ys)) ≡ heard w kind (heard w kind next (cameFrom serial xs)) (cameFrom serial ys)) →
+        let x : Sent = record { kind = a .frame .kind; tick = a .frame .tick } in
+        heard w kind s (cond t (x ∷ cameFrom serial (xs ++ ys)) (cameFrom serial (xs ++ ys)))
+        ≡ heard w kind (heard w kind s (cond t (x ∷ cameFrom serial xs) (cameFrom serial xs))) (cameFrom serial ys)
+    go true below = below _
+    go false below = below s
+
+none-from : (serial : ℕ) (xs : List Arrival) → xs ≡ [] → cameFrom serial xs ≡ []
+unfolding cameFrom
+none-from serial xs e = rw e
+
 -- ---- one call
 
--- a call that changes no byte, and in which no frame is accepted from the serial
-record Nothing (L : Layout) (last : ℕ) (image : List ℕ) (serial : ℕ) (call : Call) : Type 0 where
+-- a call that changes no byte, and in which no frame is accepted
+record Nothing (L : Layout) (last : ℕ) (image : List ℕ) (call : Call) : Type 0 where
   stays : called L last image call .image ≡ image
-  none : acceptedBy L last image serial call ≡ []
+  none : takenIn L last image call ≡ []
 
-refused-nothing : (L : Layout) (last : ℕ) (image : List ℕ) (serial port : ℕ) (frame out : List ℕ) →
+refused-nothing : (L : Layout) (last : ℕ) (image : List ℕ) (port : ℕ) (frame out : List ℕ) →
     (deliverNumber L last image port frame (length out) ≡ 0 → ⊥) →
-    Nothing L last image serial (Deliver port frame out)
-unfolding called acceptedBy
-refused-nothing L last image serial port frame out n =
+    Nothing L last image (Deliver port frame out)
+unfolding called takenIn
+refused-nothing L last image port frame out n =
     let refused = deliver-refused L last image port frame out n in
     record {
       stays = ap (λ (o : Outcome). o .image) refused;
@@ -104,17 +130,17 @@ module _ (L : Layout) (last : ℕ) (works : Works L) (small : last < tickCount) 
   call-heard : (image : List ℕ) (call : Call) →
       Bytes image →
       held L (called L last image call .image) serial kind
-      ≡ heard (L .window) kind (held L image serial kind) (acceptedBy L last image serial call)
-  unfolding called acceptedBy heard
+      ≡ heard (L .window) kind (held L image serial kind) (cameFrom serial (takenIn L last image call))
+  unfolding called takenIn cameFrom heard
   call-heard image Read bytes = refl
   call-heard image (Deliver port frame out) bytes = go (ℕ-discrete (deliverNumber L last image port frame (length out)) 0)
     where
       go : Dec (deliverNumber L last image port frame (length out) ≡ 0) →
           held L (called L last image (Deliver port frame out) .image) serial kind
-          ≡ heard (L .window) kind (held L image serial kind) (acceptedBy L last image serial (Deliver port frame out))
+          ≡ heard (L .window) kind (held L image serial kind) (cameFrom serial (takenIn L last image (Deliver port frame out)))
       go (yes e) = rw (deliver-done L last image port frame out e) (delivery-heard image port frame out bytes e)
       go (no n) =
-          let nothing = refused-nothing L last image serial port frame out n in
+          let nothing = refused-nothing L last image port frame out n in
           rw (nothing .stays, nothing .none)
 
 -- ---- the theorem
@@ -128,33 +154,33 @@ pub held-is-heard : (L : Layout) (last : ℕ) →
     Known kind →
     held L (imageLeft L last image calls) serial kind
     ≡ heard (L .window) kind (held L image serial kind) (accepted L last image serial calls)
-unfolding imageLeft accepted heard
+unfolding imageLeft takenOver cameFrom heard
 held-is-heard L last works small image [] serial kind bytes known = refl
 held-is-heard L last works small image (call ∷ calls) serial kind bytes known =
     held-is-heard L last works small (called L last image call .image) calls serial kind (bytes-called L last image call bytes) known
     ∙ ap (λ (s : Held). heard (L .window) kind s (accepted L last (called L last image call .image) serial calls))
     (call-heard L last works small serial kind known image call bytes)
-    ∙ sym (heard-append (L .window) kind (held L image serial kind) (acceptedBy L last image serial call) _)
+    ∙ sym (heard-then (L .window) kind serial (held L image serial kind) (takenIn L last image call) _)
 
 -- ---- order and repetition decide nothing
 
 -- an image that is not sound takes no frame
-unsound-nothing : (L : Layout) (last : ℕ) (image : List ℕ) (serial : ℕ) (call : Call) →
+unsound-nothing : (L : Layout) (last : ℕ) (image : List ℕ) (call : Call) →
     (soundImage L last image ≡ true → ⊥) →
-    Nothing L last image serial call
-unfolding called acceptedBy
-unsound-nothing L last image serial Read n = record { stays = refl; none = refl }
-unsound-nothing L last image serial (Deliver port frame out) n =
-    refused-nothing L last image serial port frame out (λ e. n (deliver-taken L last image port frame (length out) e .sound))
+    Nothing L last image call
+unfolding called takenIn
+unsound-nothing L last image Read n = record { stays = refl; none = refl }
+unsound-nothing L last image (Deliver port frame out) n =
+    refused-nothing L last image port frame out (λ e. n (deliver-taken L last image port frame (length out) e .sound))
 
-unsound-none : (L : Layout) (last : ℕ) (image : List ℕ) (serial : ℕ) (calls : List Call) →
+unsound-none : (L : Layout) (last : ℕ) (image : List ℕ) (calls : List Call) →
     (soundImage L last image ≡ true → ⊥) →
-    accepted L last image serial calls ≡ []
-unfolding accepted
-unsound-none L last image serial [] n = refl
-unsound-none L last image serial (call ∷ calls) n =
-    let nothing = unsound-nothing L last image serial call n in
-    rw (nothing .none, nothing .stays) (unsound-none L last image serial calls n)
+    takenOver L last image calls ≡ []
+unfolding takenOver
+unsound-none L last image [] n = refl
+unsound-none L last image (call ∷ calls) n =
+    let nothing = unsound-nothing L last image call n in
+    rw (nothing .none, nothing .stays) (unsound-none L last image calls n)
 
 no-members : (frames : List Sent) → ((frame : Sent) → List·Memᴰ frame frames → ⊥) → frames ≡ []
 no-members [] n = refl
@@ -189,7 +215,7 @@ held-alike L last works small image other calls others serial kind bytes bytes�
         ≡ heard (L .window) kind (held L image serial kind) (accepted L last other serial others)
     go true e = heard-same (L .window) kind _ _ _ (works .wide) (proper e) there back
     go false e =
-        let none = unsound-none L last image serial calls (λ f. false≢true (sym e ∙ f)) in
+        let none = none-from serial (takenOver L last image calls) (unsound-none L last image calls (λ f. false≢true (sym e ∙ f))) in
         rw (none, no-members (accepted L last other serial others) (λ f m. List·Memᴰ·not-nil (rw none at (back f m))))
 
 -- two runs of calls on one image in which the same frames were accepted from a serial leave the same set under it

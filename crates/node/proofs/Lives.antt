@@ -16,7 +16,8 @@ use Rattle.forms.specs.declared.frame.Frame.{Frame}
 use Rattle.forms.proofs.Order.{count-order, byte-same, front-same, form-number-order, serials-order}
 use Rattle.evidence.specs.Rows.{Row}
 use Rattle.evidence.proofs.Layouts.{serials-of-rows}
-use Rattle.node.specs.Calls.{Outcome, outcome, bootNumber, freshState, booted, portNumber, deliverNumber, deliveryOf, deliverOutcome}
+use Rattle.node.specs.Calls.{Outcome, outcome, bootNumber, freshState, booted}
+use Rattle.node.specs.Calls.{numberBeforeFrame, deliverNumber, deliveryOf, deliverOutcome}
 use Rattle.node.specs.Calls.{Reading, readNumber, reading}
 use Rattle.rules.specs.Delivery.{State, Delivered, delivered}
 use Rattle.rules.specs.Describe.{freshNode, freshRows}
@@ -61,7 +62,7 @@ module _ (L : Layout) (last : ℕ) (a b : List ℕ) (h : Pair L last a b) where
       (Permᴰ·map (λ (row : Row). row .serial) (h .same .rows))
 
   same-number : (port : ℕ) (frame : List ℕ) (n : ℕ) → deliverNumber L last a port frame n ≡ deliverNumber L last b port frame n
-  unfolding deliverNumber portNumber
+  unfolding deliverNumber numberBeforeFrame
   same-number port frame n = rw (h .first, h .second, count-order port serials)
 
   same-reading : reading L last a ≡ reading L last b

@@ -13,7 +13,7 @@ use Rattle.forms.specs.Number.{orElse}
 use Rattle.forms.specs.Table.{Check, Given, Says}
 use Rattle.forms.proofs.Meaning.{less, equal, in-front, none, past, form-then, frame-says, frame-told, absent}
 use Rattle.rules.specs.Describe.{room}
-use Rattle.node.specs.Calls.{bootNumber, booted, portNumber, deliverNumber, deliverOutcome, readNumber, reading}
+use Rattle.node.specs.Calls.{bootNumber, booted, numberBeforeFrame, deliverNumber, deliverOutcome, readNumber, reading}
 use Rattle.node.specs.Image.{Layout, modePlace, imageSize, rosterIn, soundImage}
 use Rattle.node.specs.Table.{bootChecks, deliverChecks, readChecks}
 use Rattle.node.proofs.Conditions.{not-sound-says}
@@ -39,7 +39,7 @@ swap false a b = refl
 pub deliver-says :
     (L : Layout) (last : ℕ) (image : List ℕ) (port : ℕ) (frame out : List ℕ)
     → Says (deliverOutcome L last image port frame out .number) (deliverChecks L last image port frame out)
-unfolding deliverNumber portNumber
+unfolding deliverNumber numberBeforeFrame
 deliver-says L last image port frame out =
     rw (deliver-told L last image port frame out, swap (soundImage L last image), past, past, past)
     (in-front 7 (less (length out) room) (omega arith)

@@ -25,13 +25,12 @@ use Rattle.forms.specs.declared.answer.Refusal.{Refusal}
 use Rattle.forms.specs.declared.form.Form.{Form}
 use Rattle.forms.specs.declared.form.FormRead.{FormRead}
 use Rattle.forms.specs.declared.form.FormRead.the-variants.{Taken as TakenForm}
-use Rattle.forms.proofs.Meaning.{frame-told, frame-says}
-use Rattle.forms.proofs.Frames.{settled-head, head-kind}
+use Rattle.forms.proofs.Meaning.{not-apart, frame-told, frame-says}
+use Rattle.forms.proofs.Frames.{not-bad-head, head-kind}
 use Rattle.forms.proofs.Rosters.{Limits}
-use Rattle.forms.proofs.RoundTrip.{settled}
 use Rattle.forms.proofs.Told.{refusal, told-taken, form-taken, form-roster, none-given, first-given}
 use Rattle.rules.specs.Describe.{room}
-use Rattle.node.specs.Calls.{bootNumber, portNumber, deliverNumber}
+use Rattle.node.specs.Calls.{bootNumber, numberBeforeFrame, deliverNumber}
 use Rattle.node.specs.Image.{Layout, imageSize, rosterIn, soundImage}
 use Rattle.node.proofs.Sound.{roster-lines}
 
@@ -102,18 +101,18 @@ pub frame-whole : (last : ℕ) (b : List ℕ) → frameNumber last b ≡ 0 → W
 frame-whole last b z =
     let given = frame-says last b .exactly 0 .0 (frame-told last b ∙ z) in
     record {
-      size = settled _ _ (λ n. given .0 (inl (inl (inl n))));
-      kind = head-kind _ _ (settled-head _ _ (λ n. given .0 (inl (inl (inr n)))));
+      size = not-apart _ _ (λ n. given .0 (inl (inl (inl n))));
+      kind = head-kind _ _ (not-bad-head _ _ (λ n. given .0 (inl (inl (inr n)))));
       tick = elim (decLe (field 4 b 4) last) [ yes p ↦ p | no np ↦ absurd (given .1 .0 (omega arith)) ];
     }
 
 -- what is told of a frame that is refused: its number
-pub told-misshapen :
+pub told-frame-refused :
     (last : ℕ) (b : List ℕ) (read : FrameRead) (why : Refusal)
     → frameBy read ≡ frameTold last b
     → read ≡ RefusedFrame why
     → frameNumber last b ≡ numberOf why
-told-misshapen last b read why told e =
+told-frame-refused last b read why told e =
     sym (frame-told last b) ∙ ap (λ (t : FrameTold). t .number) (sym told) ∙ ap (λ (r : FrameRead). frameBy r .number) e
 
 -- and of one that is taken: its number is 0, and it is the frame of the bytes
@@ -138,9 +137,9 @@ pub deliver-taken :
     (L : Layout) (last : ℕ) (image : List ℕ) (port : ℕ) (frame : List ℕ) (outLength : ℕ)
     → deliverNumber L last image port frame outLength ≡ 0
     → Taken L last image port frame outLength
-unfolding deliverNumber portNumber
+unfolding deliverNumber numberBeforeFrame
 deliver-taken L last image port frame outLength e =
-    let parts = none-given (portNumber L last image port outLength) (frameNumber last frame) e in
+    let parts = none-given (numberBeforeFrame L last image port outLength) (frameNumber last frame) e in
     let space = passed (ltb outLength room) 7 _ (lit< tt) (parts .0) in
     let sound = past-image (soundImage L last image) _ (space .1) in
     let listed = passed (eqb (count port (rosterIn L image)) 0) 9 _ (lit< tt) (sound .1) in

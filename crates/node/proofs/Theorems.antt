@@ -4,10 +4,10 @@
 -- life in Runs; who answers whom in rules' Answering. That the code gives just these outcomes, for every input, is the contract of each
 -- call (src/calls.rt). The proofs are short here and stand in the files named.
 -- Assumes nothing.
-use mathlib.Core.Path.{_≡_, sym, ap, _∙_, subst}
+use mathlib.Core.Path.{_≡_, refl, sym, ap, _∙_, subst}
 use mathlib.Core.Bool.{true}
 use mathlib.Core.Logic.{_↔_, _≢_, _⊎_}
-use mathlib.Core.List.{List, [], _∷_, List·Memᴰ}
+use mathlib.Core.List.{List, [], _∷_, _++_, List·Memᴰ}
 use Prim.Native.Nat.{ℕ, _+_, _*_, _≤_, _<_}
 use native.Mathlib.Omega.{arith}
 use lib.ListN.{length, getD}
@@ -15,24 +15,24 @@ use lib.Dec.{lit<}
 use Rattle.fields.specs.Field.{Bytes}
 use Rattle.fields.specs.Kind.{INIT, ECHO}
 use Rattle.forms.specs.Form.{linesOf, Reordered}
-use Rattle.forms.specs.Frame.{ANSWER, frameAt, frameWriteNumber}
-use Rattle.forms.specs.Table.{Says, Twice}
+use Rattle.forms.specs.Frame.{ANSWER, frameAt}
+use Rattle.forms.specs.Table.{KnownHead, Says, Twice}
 use Rattle.forms.specs.declared.frame.Frame.{Frame}
 use Rattle.evidence.specs.Holders.{heldUnder}
 use Rattle.evidence.specs.Rows.{Row}
 use Rattle.evidence.specs.Serials.{serialsIn}
-use Rattle.rules.specs.Answering.{Asks, Broadcast, TheAnswer, answersIn, asksIn}
+use Rattle.rules.specs.Answering.{Asks, Silent, Broadcast, TheAnswer, answersIn, asksIn, anyone}
 use Rattle.rules.specs.Clock.{Ordered, Below}
-use Rattle.rules.specs.Delivery.{Delivered}
+use Rattle.rules.specs.Delivery.{Delivered, otherThan, answer, settled, delivered}
 use Rattle.sets.specs.History.{Sent, heard}
 use Rattle.sets.specs.Ticks.{Held}
 use Rattle.rules.specs.Describe.{window, lastTick}
-use Rattle.rules.specs.Record.{Outgoing, Every, broadcast, recordSize, putRecords, recordsAt}
+use Rattle.rules.specs.Record.{Outgoing, Every, broadcast, answerTo, recordSize, putRecords}
 use Rattle.rules.specs.Rules.{firstRule}
 use Rattle.rules.specs.Which.{Fires}
 use Rattle.rules.specs.declared.node.Node.{Node}
 use Rattle.rules.specs.declared.node.Rule.{Rule}
-use Rattle.rules.proofs.Answering.{delivered-answered, delivered-unasked}
+use Rattle.rules.proofs.Answering.{answer-asked, answer-unasked, settled-broadcasts}
 use Rattle.rules.proofs.Every.{every-member}
 use Rattle.rules.proofs.Which.{which-says}
 use Rattle.node.specs.After.{Begins, Follows, InRow}
@@ -45,7 +45,7 @@ use Rattle.node.specs.Image.{layout, imageSize, rowsOf, nodeOf, stateOf,
 use Rattle.node.specs.Runs.{Call, life}
 use Rattle.node.specs.Sound.{SoundImage}
 use Rattle.node.specs.Table.{bootChecks, deliverChecks, readChecks}
-use Rattle.node.specs.Traffic.{sentOver, takenOver}
+use Rattle.node.specs.Traffic.{recordsOf, sentOver, takenOver, sentInLife}
 use Rattle.node.specs.declared.calls.Answer.{Answer}
 use Rattle.node.specs.declared.calls.Reading.{Reading}
 use Rattle.node.proofs.Images.{state-again}
@@ -60,7 +60,8 @@ use Rattle.node.proofs.Outcomes.{boot-told, boot-done, boot-refused, de
 use Rattle.node.proofs.Outcomes.{read-done, read-refused}
 use Rattle.node.proofs.SoundImages.{in-service, boot-sound}
 use Rattle.node.proofs.SoundImages.{delivery-sound, delivery-ordered, delivery-firings, delivery-records, delivery-below}
-use Rattle.node.proofs.Traffic.{delivery-back, flag-of-the-answer, flag-of-the-destination, sends-taken, same-image, calls-modest}
+use Rattle.node.proofs.Traffic.{delivery-back, flag-of-the-answer, sends-known, same-image, same-others}
+use Rattle.node.proofs.Traffic.{asks-fewer, calls-modest, life-sent, bytes-booted}
 
 -- ---- Boot
 
@@ -204,9 +205,13 @@ module _ (image : List ℕ) (port : ℕ) (frame out : List ℕ) where
 
   -- ---- Who is answered (02, A2)
 
-  -- the records as the output bytes have them
+  -- the records that the call reports, as the bytes of its output have them
   abbrev sends : List Outgoing
-  sends = recordsAt (delivers .records) (delivers .out) 0
+  sends = recordsOf delivers
+
+  -- those that the rules send
+  abbrev others : List Outgoing
+  others = settled window lastTick (stateOf layout image) port (frameAt frame 0) .records
 
   -- What is written reads back the same: they are the step's, flag and all
   pub records-read-back :
@@ -216,50 +221,80 @@ module _ (image : List ℕ) (port : ℕ) (frame out : List ℕ) where
   records-read-back bytes ok =
       rw (done ok) (delivery-back layout lastTick in-service (lit< tt) image port frame out bytes (given ok))
 
-  module _ (bytes : Bytes image) (ok : delivers .number ≡ 0) where
-    of-sends : (Holds : Outgoing → Type 0) → Every Holds (step .records) → Every Holds sends
-    of-sends Holds = subst (Every Holds) (sym (records-read-back bytes ok))
+  -- The answer comes first, where there is one, and the rules' records behind it
+  pub answer-comes-first :
+      Bytes image
+      → delivers .number ≡ 0
+      → sends ≡ answer (nodeOf image) port (frameAt frame 0) ++ others
+  unfolding deliveryOf delivered stateOf
+  answer-comes-first = records-read-back
 
-    -- A record carries the flag exactly where it is the answer: to the port that asked, with the last echo sent before
-    pub flagged-is-the-answer : Every (λ r. (r .frame .flag ≡ ANSWER) ↔ TheAnswer (nodeOf image) port (frameAt frame 0) r) sends
-    flagged-is-the-answer = of-sends _ (flag-of-the-answer layout lastTick in-service (lit< tt) image port frame out bytes (given ok))
+  -- What the rules send goes to all, without the flag
+  pub rules-broadcast : Every Broadcast others
+  unfolding settled
+  rules-broadcast = settled-broadcasts window lastTick _ _ (stateOf layout image .node)
 
-    -- and exactly where it goes to one serial alone; what goes to all has none
-    pub flagged-goes-to-one : Every (λ r. (r .frame .flag ≡ ANSWER) ↔ (r .dest ≢ 0)) sends
-    flagged-goes-to-one = of-sends _ (flag-of-the-destination layout lastTick in-service (lit< tt) image port frame out bytes (given ok))
+  -- A record carries the flag exactly where it is the answer: to the port that asked, with the last echo sent before
+  pub flagged-is-the-answer :
+      Bytes image
+      → delivers .number ≡ 0
+      → Every (λ r. (r .frame .flag ≡ ANSWER) ↔ TheAnswer (nodeOf image) port (frameAt frame 0) r) sends
+  flagged-is-the-answer bytes ok =
+      subst (Every (λ r. (r .frame .flag ≡ ANSWER) ↔ TheAnswer (nodeOf image) port (frameAt frame 0) r))
+      (sym (records-read-back bytes ok))
+      (flag-of-the-answer layout lastTick in-service (lit< tt) image port frame out bytes (given ok))
 
-    -- Another serial that asks is answered, once
-    pub asked-is-answered :
-        Asks (frameAt frame 0)
-        → port ≢ nodeOf image .own
-        → answersIn sends ≡ 1
-    unfolding deliveryOf stateOf
-    asked-is-answered asked other =
-        ap answersIn (records-read-back bytes ok)
-        ∙ delivered-answered window lastTick (stateOf layout image) port (frameAt frame 0) asked other
+  -- Another serial that asks is answered, once
+  pub asked-is-answered :
+      Bytes image
+      → delivers .number ≡ 0
+      → Asks (frameAt frame 0)
+      → port ≢ nodeOf image .own
+      → sends ≡ answerTo port (nodeOf image .sent) ∷ others
+  asked-is-answered bytes ok asked other =
+      answer-comes-first bytes ok
+      ∙ ap (λ (l : List Outgoing). l ++ others) (answer-asked (nodeOf image) port (frameAt frame 0) asked other)
 
-    -- A frame that does not ask draws no answer; so an answer is never answered
-    pub unasked-unanswered : (Asks (frameAt frame 0) → ⊥) → Every Broadcast sends
-    unfolding deliveryOf
-    unasked-unanswered unasked = of-sends _ (delivered-unasked window lastTick (stateOf layout image) port (frameAt frame 0) unasked)
+  -- A frame that does not ask draws no answer
+  pub unasked-unanswered :
+      Bytes image
+      → delivers .number ≡ 0
+      → (Asks (frameAt frame 0) → ⊥)
+      → sends ≡ others
+  unasked-unanswered bytes ok unasked =
+      answer-comes-first bytes ok
+      ∙ ap (λ (l : List Outgoing). l ++ others) (answer-unasked (nodeOf image) port (frameAt frame 0) unasked)
 
-    pub answer-never-answered : frameAt frame 0 .flag ≡ ANSWER → Every Broadcast sends
-    answer-never-answered flag = unasked-unanswered (λ asks. omega (arith, flag, asks .flag))
+  -- So an answer is never answered
+  pub answer-never-answered :
+      Bytes image
+      → delivers .number ≡ 0
+      → frameAt frame 0 .flag ≡ ANSWER
+      → sends ≡ others
+  answer-never-answered bytes ok flag = unasked-unanswered bytes ok (λ asks. omega (arith, flag, asks .flag))
 
-    -- What a node sends the frame writer would write: 10 and 11 are never given for it
-    pub sends-what-is-taken : Every (λ r. frameWriteNumber lastTick (r .frame) ≡ 0) sends
-    sends-what-is-taken = of-sends _ (sends-taken layout lastTick in-service (lit< tt) image port frame out bytes (given ok))
+  -- Every record has a frame that 10 and 11 would not refuse
+  pub sends-known-frames :
+      Bytes image
+      → delivers .number ≡ 0
+      → Every (λ r. KnownHead (r .frame .kind) (r .frame .flag) × (r .frame .tick ≤ lastTick)) sends
+  sends-known-frames bytes ok =
+      subst (Every (λ r. KnownHead (r .frame .kind) (r .frame .flag) × (r .frame .tick ≤ lastTick))) (sym (records-read-back bytes ok))
+      (sends-known layout lastTick in-service (lit< tt) image port frame out bytes (given ok))
 
--- Evidence treats both alike: two frames that differ in the flag alone leave the same image
-pub flag-decides-no-evidence :
+-- The flag decides nothing but the answer: two frames that differ in it alone leave the same image, and the rules send the same
+pub flag-decides-the-answer-alone :
     (image : List ℕ) (port : ℕ) (frame other out : List ℕ)
     → delivers image port frame out .number ≡ 0
     → delivers image port other out .number ≡ 0
     → frameAt frame 0 .kind ≡ frameAt other 0 .kind
     → frameAt frame 0 .tick ≡ frameAt other 0 .tick
-    → delivers image port frame out .image ≡ delivers image port other out .image
-flag-decides-no-evidence image port frame other out ok ok′ kind tick =
-    rw (done image port frame out ok, done image port other out ok′) (same-image layout lastTick image port frame other kind tick)
+    → (delivers image port frame out .image ≡ delivers image port other out .image)
+    × (others image port frame out ≡ others image port other out)
+flag-decides-the-answer-alone image port frame other out ok ok′ kind tick = (
+  rw (done image port frame out ok, done image port other out ok′) (same-image layout lastTick image port frame other kind tick),
+  same-others window lastTick (stateOf layout image) port (frameAt frame 0) (frameAt other 0) kind tick,
+)
 
 -- ---- Read
 
@@ -339,28 +374,56 @@ clock-never-falls = calls-later layout lastTick in-service (lit< tt)
 
 -- ---- Answers (02, A2), over any calls from any senders, refused ones among them
 
-module _ (image : List ℕ) (calls : List Call) (bytes : Bytes image) where
-  -- Nothing that a node sends after its boot message asks for an answer: no echo 0 goes out without the flag
-  pub nothing-sent-asks : Every (λ r. Asks (r .frame) → ⊥) (sentOver layout lastTick image calls)
-  nothing-sent-asks = calls-modest layout lastTick in-service (lit< tt) image calls bytes .silent
+-- Nothing that the calls send asks for an answer: no echo 0 goes out without the flag
+pub nothing-sent-asks :
+    (image : List ℕ) (calls : List Call)
+    → Bytes image
+    → Every Silent (sentOver layout lastTick image calls)
+nothing-sent-asks image calls bytes = calls-modest layout lastTick in-service (lit< tt) image calls bytes .silent
 
-  -- The line does not fill: the answers sent are at most as many as the (echo, 0) without the flag that were taken
-  pub answers-are-few :
-      answersIn (sentOver layout lastTick image calls)
-      ≤ asksIn (takenOver layout lastTick image calls)
-  answers-are-few = calls-modest layout lastTick in-service (lit< tt) image calls bytes .few
+-- Over a whole life the boot message is the one record that asks
+pub boot-message-alone-asks :
+    (form image out : List ℕ) (calls : List Call)
+    → Bytes image
+    → boots form image out .number ≡ 0
+    → let rest = sentOver layout lastTick (boots form image out .image) calls in
+    (sentInLife layout lastTick form image out calls ≡ broadcast ECHO 0 ∷ rest) × Asks (broadcast ECHO 0 .frame) × Every Silent rest
+boot-message-alone-asks form image out calls bytes ok =
+    let given = sym (boot-told layout form image out) ∙ ok in (
+      life-sent layout form image out given lastTick calls,
+      record { kind = refl; tick = refl; flag = refl },
+      nothing-sent-asks (boots form image out .image) calls (bytes-booted layout form image out given bytes),
+    )
 
-  -- So two nodes do not keep each other busy: a frame that one of them sent draws no answer from any other
-  pub sent-draws-no-answer :
-      (other : List ℕ) (port : ℕ) (frame out : List ℕ) (r : Outgoing)
-      → Bytes other
-      → deliverOutcome layout lastTick other port frame out .number ≡ 0
-      → List·Memᴰ r (sentOver layout lastTick image calls)
-      → frameAt frame 0 ≡ r .frame
-      → Every Broadcast (sends other port frame out)
-  sent-draws-no-answer other port frame out r bytes′ ok sent same =
-      unasked-unanswered other port frame out bytes′ ok
-      (subst (λ (f : Frame). Asks f → ⊥) (sym same) (every-member (λ r. Asks (r .frame) → ⊥) nothing-sent-asks sent))
+-- As many answers go out as (echo, 0) without the flag are taken from other serials
+pub answers-are-those-asked :
+    (image : List ℕ) (calls : List Call)
+    → Bytes image
+    → answersIn (sentOver layout lastTick image calls)
+    ≡ asksIn (otherThan (nodeOf image .own)) (takenOver layout lastTick image calls)
+answers-are-those-asked image calls bytes = calls-modest layout lastTick in-service (lit< tt) image calls bytes .count
+
+-- So at most as many as are taken at all
+pub answers-are-few :
+    (image : List ℕ) (calls : List Call)
+    → Bytes image
+    → answersIn (sentOver layout lastTick image calls) ≤ asksIn anyone (takenOver layout lastTick image calls)
+answers-are-few image calls bytes =
+    subst (λ (n : ℕ). n ≤ asksIn anyone (takenOver layout lastTick image calls)) (sym (answers-are-those-asked image calls bytes))
+    (asks-fewer (otherThan (nodeOf image .own)) (takenOver layout lastTick image calls))
+
+-- What a node sent after its boot message draws no answer, from any node
+pub sent-draws-no-answer :
+    (image : List ℕ) (calls : List Call) (other : List ℕ) (port : ℕ) (frame out : List ℕ) (r : Outgoing)
+    → Bytes image
+    → Bytes other
+    → delivers other port frame out .number ≡ 0
+    → List·Memᴰ r (sentOver layout lastTick image calls)
+    → frameAt frame 0 ≡ r .frame
+    → sends other port frame out ≡ others other port frame out
+sent-draws-no-answer image calls other port frame out r bytes bytes′ ok sent same =
+    unasked-unanswered other port frame out bytes′ ok
+    (subst (λ (f : Frame). Asks f → ⊥) (sym same) (every-member Silent (nothing-sent-asks image calls bytes) sent))
 
 -- ---- Demand 3. Two forms alike in all but the line order of their serials: the same is seen after each call, for ever
 

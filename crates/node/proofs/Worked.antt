@@ -20,7 +20,7 @@ use Rattle.rules.specs.Describe.{window, lastTick, room, freshRows}
 use Rattle.rules.specs.Record.{recordSize, putRecord, putRecords}
 use Rattle.rules.specs.Rules.{firstRule, fired, said, firing, settle}
 use Rattle.rules.specs.Delivery.{answer, settled, delivered}
-use Rattle.node.specs.Calls.{Outcome, bootNumber, freshState, booted, portNumber, deliverNumber, deliveryOf, imageAfter}
+use Rattle.node.specs.Calls.{Outcome, bootNumber, freshState, booted, numberBeforeFrame, deliverNumber, deliveryOf, imageAfter}
 use Rattle.node.specs.Calls.{deliverOutcome}
 use Rattle.node.specs.Image.{layout, imageSize, nodeOf, rowsOf, stateOf, putClock, putFixed, putNode, putState}
 use Rattle.node.specs.Image.{fixedHeader, soundState, soundImage}
@@ -147,7 +147,7 @@ settled-examples :
       with-69 = 69 ∷ 68 ∷ 67 ∷ 6 ∷ [];
       with-70 = 70 ∷ 69 ∷ 68 ∷ [];
     }
-unfolding turned onwards ticksBelow play booted bootNumber freshState deliverOutcome portNumber deliverNumber deliveryOf imageAfter
+unfolding turned onwards ticksBelow play booted bootNumber freshState deliverOutcome numberBeforeFrame deliverNumber deliveryOf imageAfter
     formNumber frameNumber rosterNumber count twins soundImage soundState fixedHeader stateOf nodeOf putState putNode putFixed putClock
     freshRows field putField words putFrame putRecord putRecords rowsAt rowAt setAt putRows putRow putSet properRows properSet
     proper delivered settled answer settle firing firstRule fired said credit creditOf creditRow setOf holders heldUnder greatest

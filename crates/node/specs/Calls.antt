@@ -50,15 +50,16 @@ unfoldable pub booted : Layout → List ℕ → List ℕ → List ℕ → Outcom
 booted L form image out =
     outcome (bootNumber L form (length image) (length out)) image out (bootDone L form image out)
 
--- ---- deliver: 7, 8, 9 of room, image and port, then 10 and 11 of the frame
+-- ---- deliver: 7, 8, 9, then 10 and 11 of the frame
 
-unfoldable pub portNumber : Layout → ℕ → List ℕ → ℕ → ℕ → ℕ
-portNumber L last image port outLength =
+-- 7 of the room, 8 of the image, 9 of the port
+unfoldable pub numberBeforeFrame : Layout → ℕ → List ℕ → ℕ → ℕ → ℕ
+numberBeforeFrame L last image port outLength =
     cond (ltb outLength room) 7
     (cond (soundImage L last image) (cond (eqb (count port (rosterIn L image)) 0) 9 0) 8)
 
 unfoldable pub deliverNumber : Layout → ℕ → List ℕ → ℕ → List ℕ → ℕ → ℕ
-deliverNumber L last image port frame outLength = orElse (portNumber L last image port outLength) (frameNumber last frame)
+deliverNumber L last image port frame outLength = orElse (numberBeforeFrame L last image port outLength) (frameNumber last frame)
 
 -- the delivery of a frame that is taken
 unfoldable pub deliveryOf : Layout → ℕ → List ℕ → ℕ → List ℕ → Delivered

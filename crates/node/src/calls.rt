@@ -21,7 +21,7 @@ use rules::node::Node;
 use rules::record::put_broadcast;
 ghost use mathlib.Core.Path.{_≡_};
 ghost use Rattle.node.specs.Answers.{outcomeBy, readingBy};
-ghost use Rattle.node.specs.Calls.{booted, portNumber, deliverOutcome, reading};
+ghost use Rattle.node.specs.Calls.{booted, numberBeforeFrame, deliverOutcome, reading};
 ghost use Rattle.rules.specs.Describe.{lastTick};
 ghost use Rattle.node.specs.Image.{layout};
 
@@ -75,9 +75,9 @@ pub fn boot(form: &[u8], image: &mut [u8], out: &mut [u8]) -> Answer
     }
 }
 
-// The number that room, image and port give a delivery: 7 to 9, or 0.
-fn port_number(image: &[u8], port: u32, room: usize) -> u32
-    ensures { λ r. ⌜ r ≡ portNumber layout lastTick (now (image .entry)) port room ⌝ }
+// What a delivery is given before its frame is looked at: 7 of the room, 8 of the image, 9 of the port, or 0.
+fn number_before_frame(image: &[u8], port: u32, room: usize) -> u32
+    ensures { λ r. ⌜ r ≡ numberBeforeFrame layout lastTick (now (image .entry)) port room ⌝ }
 {
     if room < Node::ROOM {
         return 7;
@@ -98,7 +98,7 @@ pub fn deliver(image: &mut [u8], port: u32, frame: &[u8], out: &mut [u8]) -> Ans
         ≡ deliverOutcome layout lastTick (now (image .entry)) port (now (frame .entry)) (now (out .entry)) ⌝ }
 {
     let room = out.len();
-    let number = port_number(image, port, room);
+    let number = number_before_frame(image, port, room);
     if number != 0 {
         return Answer { number, records: 0 };
     }

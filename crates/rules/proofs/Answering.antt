@@ -1,23 +1,23 @@
 -- Who answers whom (02, A2): a record of a delivery is the one answer or a broadcast, only a frame that asks is answered, and no record
 -- asks, so that an answer draws none.
 -- Assumes nothing.
-use mathlib.Core.Path.{_≡_, refl}
+use mathlib.Core.Path.{_≡_, refl, sym, _∙_}
 use mathlib.Core.Logic.{_↔_, _≢_, _⊎_, inl, inr, Iff·trans}
-use mathlib.Core.Bool.{true, cond, not, _&&_}
+use mathlib.Core.Bool.{Bool, true, false, cond, _&&_}
 use mathlib.Core.List.{List, [], _∷_, _++_}
-use Prim.Native.Nat.{ℕ, _+_, _≤_}
+use Prim.Native.Nat.{ℕ, _+_}
 use native.Mathlib.Omega.{arith}
 use borrow.Author.Tests.{ltb-true, ne-eqb}
-use lib.Dec.{ltb, eqb}
+use lib.Dec.{ltb}
 use Rattle.fields.specs.Kind.{ECHO}
-use Rattle.forms.specs.Frame.{BROADCAST}
+use Rattle.forms.specs.Frame.{BROADCAST, ANSWER}
 use Rattle.forms.specs.Table.{KnownHead}
 use Rattle.forms.specs.declared.frame.Frame.{Frame}
 use Rattle.forms.proofs.Meaning.{equal, opposite, both}
 use Rattle.evidence.specs.Rows.{Row}
 use Rattle.evidence.proofs.Greatest.{greatest-held}
-use Rattle.rules.specs.Answering.{Asks, Broadcast, TheAnswer, answersIn}
-use Rattle.rules.specs.Delivery.{State, asks, answer, credited, settled, delivered}
+use Rattle.rules.specs.Answering.{Asks, Silent, Broadcast, TheAnswer, answersIn}
+use Rattle.rules.specs.Delivery.{State, asks, otherThan, answer, credited, settled, delivered}
 use Rattle.rules.specs.Describe.{mostFirings}
 use Rattle.rules.specs.Record.{Outgoing, Every, broadcast, answerTo}
 use Rattle.rules.specs.Rules.{firstRule, woken, said, settle}
@@ -37,10 +37,6 @@ asks-says frame =
 to-all : {kind tick : ℕ} → Broadcast (broadcast kind tick)
 to-all = record { dest = refl; flag = refl }
 
--- a record whose frame asks for nothing
-abbrev Silent : Outgoing → Type 0
-Silent r = Asks (r .frame) → ⊥
-
 -- a record whose kind and flag the reader knows
 abbrev Known : Outgoing → Type 0
 Known r = KnownHead (r .frame .kind) (r .frame .flag)
@@ -55,11 +51,19 @@ pub answered :
     → Q (answer p port frame)
 unfolding answer
 answered Q p port frame one none =
-    one-or-none Q (asks frame && not (eqb port (p .own))) (answerTo port (p .sent))
+    one-or-none Q (asks frame && otherThan (p .own) port) (answerTo port (p .sent))
     (λ e.
     let h = both _ _ (asks-says frame) (opposite _ (equal port (p .own))) .0 e in
-    one (record { asked = h .0; other = h .1; is = refl }))
+    one (record { asked = h .0; other = h .1; dest = refl; kind = refl; tick = refl }))
     none
+
+module _ (p : Node) (port : ℕ) (frame : Frame) where
+  pub answer-asked : Asks frame → port ≢ p .own → answer p port frame ≡ answerTo port (p .sent) ∷ []
+  unfolding answer
+  answer-asked asked other = rw (asks-says frame .1 asked, ne-eqb port (p .own) other)
+
+  pub answer-unasked : (Asks frame → ⊥) → answer p port frame ≡ []
+  answer-unasked unasked = answered (λ l. l ≡ []) p port frame (λ a. absurd (unasked (a .asked))) refl
 
 -- ---- what a rule says
 
@@ -106,7 +110,7 @@ module _ (w last : ℕ) (rows : List Row) where
   settled-heads : (c : ℕ) (p : Node) → Every Known (settle w last rows c p .records)
   settled-heads = settled-every Known (λ p. said-heads p _)
 
-  pub settled-asks-none : (c : ℕ) (p : Node) → Every (λ r. Asks (r .frame) → ⊥) (settle w last rows c p .records)
+  settled-asks-none : (c : ℕ) (p : Node) → Every Silent (settle w last rows c p .records)
   settled-asks-none = settled-every Silent (λ p. said-asks-none p _ (told w last rows p))
 
 -- ---- how many answers
@@ -117,7 +121,7 @@ answers-append [] ts = omega arith
 answers-append (r ∷ rs) ts = omega (arith, answers-append rs ts)
 
 -- broadcasts are none
-pub broadcasts-answer-none : (rs : List Outgoing) → Every Broadcast rs → answersIn rs ≡ 0
+broadcasts-answer-none : (rs : List Outgoing) → Every Broadcast rs → answersIn rs ≡ 0
 unfolding answersIn
 broadcasts-answer-none [] h = refl
 broadcasts-answer-none (r ∷ rs) h = rw (h .0 .flag) (omega (arith, broadcasts-answer-none rs (h .1)))
@@ -147,34 +151,38 @@ module _ (w last : ℕ) (s : State) (port : ℕ) (frame : Frame) where
       delivered-every (λ r. TheAnswer (s .node) port frame r ⊎ Broadcast r) inl
       (every-map others (λ (r : Outgoing) (b : Broadcast r). inr b) (settled-broadcasts w last rows mostFirings (s .node)))
 
-  -- a frame that does not ask draws broadcasts alone
-  pub delivered-unasked : (Asks frame → ⊥) → Every Broadcast (delivered w last s port frame .records)
-  delivered-unasked unasked =
-      delivered-every Broadcast (λ a. absurd (unasked (a .asked))) (settled-broadcasts w last rows mostFirings (s .node))
+  -- a record carries the flag exactly where it is the answer; a port is no 0
+  pub delivered-flags :
+      port ≢ 0
+      → Every (λ r. (r .frame .flag ≡ ANSWER) ↔ TheAnswer (s .node) port frame r) (delivered w last s port frame .records)
+  delivered-flags some =
+      delivered-every Says (λ a. (λ _. a, λ _. refl))
+      (every-map {P = Broadcast} {Q = Says} others
+      (λ r b. (λ e. absurd (omega (arith, b .flag)), λ a. absurd (some (sym (a .dest) ∙ b .dest))))
+      (settled-broadcasts w last rows mostFirings (s .node)))
+    where
+      Says : Outgoing → Type 0
+      Says r = (r .frame .flag ≡ ANSWER) ↔ TheAnswer (s .node) port frame r
 
   -- no record asks: the answer has the flag
-  pub delivered-asks-none : Every (λ r. Asks (r .frame) → ⊥) (delivered w last s port frame .records)
+  pub delivered-asks-none : Every Silent (delivered w last s port frame .records)
   delivered-asks-none = delivered-every Silent (λ _ a. omega arith) (settled-asks-none w last rows mostFirings (s .node))
 
   -- the frame reader knows each record's kind and flag
   pub delivered-heads : Every (λ r. KnownHead (r .frame .kind) (r .frame .flag)) (delivered w last s port frame .records)
   delivered-heads = delivered-every Known (λ _. inr (refl, inr refl)) (settled-heads w last rows mostFirings (s .node))
 
-  -- a frame that asks draws one answer at most, and any other frame none
-  pub delivered-answers : answersIn (delivered w last s port frame .records) ≤ cond (asks frame) 1 0
-  unfolding delivered settled answersIn
-  delivered-answers =
-      omega (
-        arith,
-        answers-append (answer (s .node) port frame) others,
-        broadcasts-answer-none others (settled-broadcasts w last rows mostFirings (s .node)),
-        answered (λ l. answersIn l ≤ cond (asks frame) 1 0) (s .node) port frame
-            (λ a. rw (asks-says frame .1 (a .asked)) (omega arith)) (omega arith),
-      )
-
-  -- another serial that asks is answered, once
-  pub delivered-answered : Asks frame → port ≢ s .node .own → answersIn (delivered w last s port frame .records) ≡ 1
+  -- as many answers as another serial that asks: one or none
+  pub delivered-answers : answersIn (delivered w last s port frame .records) ≡ cond (asks frame && otherThan (s .node .own) port) 1 0
   unfolding delivered settled answer answersIn
-  delivered-answered asked other =
-      rw (asks-says frame .1 asked, ne-eqb port (s .node .own) other)
-      (omega (arith, broadcasts-answer-none others (settled-broadcasts w last rows mostFirings (s .node))))
+  delivered-answers =
+      answers-append (answer (s .node) port frame) others
+      ∙ omega (
+        arith,
+        counted (asks frame && otherThan (s .node .own) port),
+        broadcasts-answer-none others (settled-broadcasts w last rows mostFirings (s .node)),
+      )
+    where
+      counted : (t : Bool) → answersIn (cond t (answerTo port (s .node .sent) ∷ []) []) ≡ cond t 1 0
+      counted true = refl
+      counted false = refl

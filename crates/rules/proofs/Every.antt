@@ -17,10 +17,6 @@ module _ (P : Outgoing → Type 0) where
   every-append [] ts h g = g
   every-append (r ∷ rs) ts h g = (h .0, every-append rs ts (h .1) g)
 
-  pub every-split : (rs ts : List Outgoing) → Every P (rs ++ ts) → Every P rs × Every P ts
-  every-split [] ts h = (tt, h)
-  every-split (r ∷ rs) ts h = let rest = every-split rs ts (h .1) in ((h .0, rest .0), rest .1)
-
 pub every-both : (P Q : Outgoing → Type 0) (rs : List Outgoing) → Every P rs → Every Q rs → Every (λ r. P r × Q r) rs
 every-both P Q [] h g = tt
 every-both P Q (r ∷ rs) h g = ((h .0, g .0), every-both P Q rs (h .1) (g .1))

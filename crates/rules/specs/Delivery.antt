@@ -22,7 +22,7 @@ pub record Delivered : Type 0 where
   pub records : List Outgoing
   pub firings : ℕ
 
--- step 1: evidence does not look at the flag
+-- step 1: the frame is added to the evidence of the port's serial; the flag is not looked at
 abbrev pub credited : ℕ → State → ℕ → Frame → List Row
 credited w s port frame = credit w port (frame .kind) (frame .tick) (s .rows)
 
@@ -30,9 +30,12 @@ credited w s port frame = credit w port (frame .kind) (frame .tick) (s .rows)
 abbrev pub asks : Frame → Bool
 asks frame = eqb (frame .kind) ECHO && (eqb (frame .tick) 0 && eqb (frame .flag) BROADCAST)
 
+abbrev pub otherThan : ℕ → ℕ → Bool
+otherThan own port = not (eqb port own)
+
 -- step 2: another serial that asks draws an answer to that serial alone, with the last echo sent before this delivery
 unfoldable pub answer : Node → ℕ → Frame → List Outgoing
-answer p port frame = cond (asks frame && not (eqb port (p .own))) (answerTo port (p .sent) ∷ []) []
+answer p port frame = cond (asks frame && otherThan (p .own) port) (answerTo port (p .sent) ∷ []) []
 
 -- step 3 over the evidence after step 1
 unfoldable pub settled : ℕ → ℕ → State → ℕ → Frame → Settled

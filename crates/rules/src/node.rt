@@ -2,13 +2,12 @@
 // looked at where it lies, so a node costs six words of stack however many rows there are. The methods but `new` are joints
 // between layers: the caller has checked that the rows lie inside the buffer and that there is room for all records.
 use crate::record::RECORD;
+use crate::record::put_answer;
 use crate::record::put_broadcast;
-use crate::record::put_record;
 use evidence::rows::count_holders;
 use evidence::rows::credit_row;
 use fields::kind::ECHO;
 use fields::kind::INIT;
-use forms::frame::ANSWER;
 use forms::frame::BROADCAST;
 use forms::frame::Frame;
 use search::greatest::find_greatest;
@@ -269,12 +268,7 @@ impl Node {
     {
         if asks_answer(frame) {
             if port != self.own {
-                let echo = Frame {
-                    kind: ECHO,
-                    flag: ANSWER,
-                    tick: self.sent,
-                };
-                put_record(out, 0, port, echo);
+                put_answer(out, 0, port, self.sent);
                 return 1;
             }
         }

@@ -12,19 +12,19 @@ use Prim.Native.Nat.{ℕ, _≤_}
 use borrow.Author.Tests.{eqb-false, ne-eqb}
 use Rattle.forms.specs.Frame.{frameAt, frameNumber}
 use Rattle.forms.proofs.Told.{refusal, first-given}
-use Rattle.node.specs.Calls.{refused, portNumber, deliverNumber, deliveryOf, imageAfter, deliverOutcome}
+use Rattle.node.specs.Calls.{refused, numberBeforeFrame, deliverNumber, deliveryOf, imageAfter, deliverOutcome}
 use Rattle.rules.specs.Describe.{window, lastTick}
 use Rattle.node.specs.Image.{layout, headerSize, nodeOf, stateOf}
 use Rattle.rules.specs.Steps.{DeliveredAs}
 use Rattle.rules.proofs.Clock.{delivered-ordered}
 use Rattle.node.proofs.Outcomes.{deliver-refused}
 use Rattle.node.proofs.Sound.{SoundBytes, sound-bytes, sound-rows, sound-once}
-use Rattle.node.proofs.Taken.{told-misshapen, told-frame, Taken, deliver-taken, frame-whole}
+use Rattle.node.proofs.Taken.{told-frame-refused, told-frame, Taken, deliver-taken, frame-whole}
 use Rattle.node.proofs.calls.deliver.Statement.{statement}
 use Rattle.node.proofs.calls.deliver.Tie as tie
 
-port-number-requires : tie.Need-port-number-requires
-port-number-requires c κs = search needs
+number-before-frame-requires : tie.Need-number-before-frame-requires
+number-before-frame-requires c κs = search needs
 
 same-length : tie.Need-same-length
 same-length c = search needs
@@ -43,7 +43,7 @@ returns : tie.Need-returns
 unfolding deliverNumber
 returns c =
     let a = c .before .before .before .before .before .before .args in
-    let number = c .before .port-number in
+    let number = c .before .number-before-frame in
     let some = c .if1 .taken in
     refuses (now (a .image)) (a .port) (now (a .frame)) (now (a .out)) (number .result)
     (rw (← number .ensures) (first-given (number .result) (frameNumber lastTick (now (a .frame))) (ne-eqb (number .result) 0 some))) some
@@ -67,8 +67,8 @@ start c = c .before .before .before .before .before .before
 -- past the test room, image and port give 0
 passed : (c : tie.Else1) →
     let a = start c .args in
-    portNumber layout lastTick (now (a .image)) (a .port) (length (now (a .out))) ≡ 0
-passed c = sym (c .before .port-number .ensures) ∙ c .if1 .left
+    numberBeforeFrame layout lastTick (now (a .image)) (a .port) (length (now (a .out))) ≡ 0
+passed c = sym (c .before .number-before-frame .ensures) ∙ c .if1 .left
 
 returns-2 : tie.Need-returns-2
 unfolding deliverNumber
@@ -78,7 +78,7 @@ returns-2 c =
     let a = start (read .before) .args in
     refuses (now (a .image)) (a .port) (now (a .frame)) (now (a .out)) (c .number .result)
     (rw (passed (read .before))
-    (told-misshapen lastTick _ _ _ (read .read-frame .ensures) (why .why .given .1) ∙ sym (c .number .ensures)))
+    (told-frame-refused lastTick _ _ _ (read .read-frame .ensures) (why .why .given .1) ∙ sym (c .number .ensures)))
     (λ z. eqb-false _ 0 (refusal (why .why .given .0 .0)) (sym (c .number .ensures) ∙ z))
 
 -- ---- taken
@@ -179,7 +179,7 @@ pub deliver-spec : {M : Type 1} → statement M
 deliver-spec =
     tie.close
     (tie.spec
-    port-number-requires
+    number-before-frame-requires
     same-length
     returns
     read-frame-requires

@@ -12,8 +12,8 @@ use Rattle.rules.proofs.node.Node.answer.Tie as tie
 asks-answer-requires : tie.Need-asks-answer-requires
 asks-answer-requires c κs = search needs
 
-put-record-requires : tie.Need-put-record-requires
-put-record-requires c κs = search needs
+put-answer-requires : tie.Need-put-answer-requires
+put-answer-requires c κs = search needs
 
 same-length : tie.Need-same-length
 same-length c = search needs
@@ -28,7 +28,7 @@ returns c =
     let other = c .before .before .before .before in
     let passed = other .before .before in
     let a = passed .before .before .before .args in
-    rw (asked passed, ne-eqb (a .port) (a .self .own) (other .if2 .taken)) (sent-one (c .before .before .put-record .ensures))
+    rw (asked passed, ne-eqb (a .port) (a .self .own) (other .if2 .taken)) (sent-one (c .before .before .put-answer .ensures))
 
 returns-2 : tie.Need-returns-2
 unfolding answer
@@ -45,4 +45,4 @@ returns-3 c =
 pub answer-spec : {M : Type 1} → statement M
 answer-spec =
     tie.close
-    (tie.spec asks-answer-requires put-record-requires same-length returns returns-2 returns-3)
+    (tie.spec asks-answer-requires put-answer-requires same-length returns returns-2 returns-3)

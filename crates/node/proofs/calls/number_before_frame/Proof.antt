@@ -1,5 +1,5 @@
--- `calls::port_number` meets its contract: the tests are those of the definition, one after the other, and the rows of a sound image
--- lie inside the buffer.
+-- `calls::number_before_frame` meets its contract: the tests are those of the definition, one after the other, and the rows of a sound
+-- image lie inside the buffer.
 -- Assumes nothing.
 use borrow.Author.Needs.{needs}
 use mathlib.Core.Path.{_≡_, refl, sym, _∙_}
@@ -8,15 +8,15 @@ use native.Mathlib.Omega.{arith}
 use denote.Ref.{now}
 use lib.Dec.{eqb, lit≤}
 use borrow.Author.Tests.{lt-ltb, le-ltb, eq-eqb, ne-eqb, not-true, not-false}
-use Rattle.node.specs.Calls.{portNumber}
+use Rattle.node.specs.Calls.{numberBeforeFrame}
 use Rattle.rules.specs.Describe.{room, lastTick}
 use Rattle.node.specs.Image.{layout, soundImage}
 use Rattle.node.proofs.Sound.{SoundBytes, sound-bytes, rows-inside}
-use Rattle.node.proofs.calls.port_number.Statement.{statement}
-use Rattle.node.proofs.calls.port_number.Tie as tie
+use Rattle.node.proofs.calls.number_before_frame.Statement.{statement}
+use Rattle.node.proofs.calls.number_before_frame.Tie as tie
 
 returns : tie.Need-returns
-unfolding portNumber
+unfolding numberBeforeFrame
 returns c =
     let a = c .before .before .args in
     rw (lt-ltb (a .room) room (omega arith))
@@ -25,7 +25,7 @@ is-sound-requires : tie.Need-is-sound-requires
 is-sound-requires c κs = search needs
 
 returns-2 : tie.Need-returns-2
-unfolding portNumber
+unfolding numberBeforeFrame
 returns-2 c =
     let a = c .before .before .before .before .args in
     rw (
@@ -54,8 +54,8 @@ count-word-requires c κs =
 -- past the tests of room and image the count of the port's rows decides
 counted : (c : tie.After-count-word) →
     let a = c .before .before .before .before .before .before .args in
-    portNumber layout lastTick (now (a .image)) (a .port) (a .room) ≡ cond (eqb (c .count-word .result) 0) 9 0
-unfolding portNumber
+    numberBeforeFrame layout lastTick (now (a .image)) (a .port) (a .room) ≡ cond (eqb (c .count-word .result) 0) 9 0
+unfolding numberBeforeFrame
 counted c =
     let a = c .before .before .before .before .before .before .args in
     rw (le-ltb (a .room) room (c .before .before .before .before .if1 .left), sound (c .before .before), ← c .count-word .ensures .0)
@@ -66,8 +66,8 @@ returns-3 c = rw (counted (c .before), eq-eqb (c .before .count-word .result) 0 
 returns-4 : tie.Need-returns-4
 returns-4 c = rw (counted (c .before), ne-eqb (c .before .count-word .result) 0 (c .if3 .left)) refl
 
-pub port-number-spec : {M : Type 1} → statement M
-port-number-spec =
+pub number-before-frame-spec : {M : Type 1} → statement M
+number-before-frame-spec =
     tie.close
     (tie.spec
     returns

@@ -15,7 +15,7 @@ use Rattle.fields.specs.Field.{field, Bytes}
 use Rattle.forms.specs.Column.{count}
 use Rattle.sets.specs.History.{Sent, heard}
 use Rattle.sets.specs.Ticks.{Held}
-use Rattle.sets.proofs.Histories.{heard-same}
+use Rattle.sets.proofs.Histories.{heard-same, heard-append}
 use Rattle.sets.proofs.Members.{Proper}
 use Rattle.evidence.specs.Holders.{heldUnder}
 use Rattle.evidence.specs.Rows.{credit}
@@ -48,21 +48,14 @@ sentBy frame = record { kind = getD frame 0 0; tick = field 4 frame 4 }
 abbrev Within : List Sent → List Sent → Type 0
 Within frames others = (frame : Sent) → List·Memᴰ frame frames → List·Memᴰ frame others
 
--- what is heard of frames is heard of the first of them, and then of the others
-heard-then : (w kind serial : ℕ) (s : Held) (xs ys : List Arrival) →
-    heard w kind s (cameFrom serial (xs ++ ys)) ≡ heard w kind (heard w kind s (cameFrom serial xs)) (cameFrom serial ys)
-unfolding cameFrom heard
-heard-then w kind serial s [] ys = refl
-heard-then w kind serial s (a ∷ xs) ys = go (eqb (a .port) serial) (λ next. heard-then w kind serial next xs ys)
+came-append : (serial : ℕ) (xs ys : List Arrival) → cameFrom serial (xs ++ ys) ≡ cameFrom serial xs ++ cameFrom serial ys
+unfolding cameFrom
+came-append serial [] ys = refl
+came-append serial (x ∷ xs) ys = rw (came-append serial xs ys) (go (eqb (x .port) serial) _ (cameFrom serial xs) (cameFrom serial ys))
   where
-    go : (t : Bool) →
-        ((next : Held) →
-        heard w kind next (cameFrom serial (xs ++ ys)) ≡ heard w kind (heard w kind next (cameFrom serial xs)) (cameFrom serial ys)) →
-        let x : Sent = record { kind = a .frame .kind; tick = a .frame .tick } in
-        heard w kind s (cond t (x ∷ cameFrom serial (xs ++ ys)) (cameFrom serial (xs ++ ys)))
-        ≡ heard w kind (heard w kind s (cond t (x ∷ cameFrom serial xs) (cameFrom serial xs))) (cameFrom serial ys)
-    go true below = below _
-    go false below = below s
+    go : (t : Bool) (sent : Sent) (ms ns : List Sent) → cond t (sent ∷ ms ++ ns) (ms ++ ns) ≡ cond t (sent ∷ ms) ms ++ ns
+    go true sent ms ns = refl
+    go false sent ms ns = refl
 
 none-from : (serial : ℕ) (xs : List Arrival) → xs ≡ [] → cameFrom serial xs ≡ []
 unfolding cameFrom
@@ -160,7 +153,8 @@ held-is-heard L last works small image (call ∷ calls) serial kind bytes known 
     held-is-heard L last works small (called L last image call .image) calls serial kind (bytes-called L last image call bytes) known
     ∙ ap (λ (s : Held). heard (L .window) kind s (accepted L last (called L last image call .image) serial calls))
     (call-heard L last works small serial kind known image call bytes)
-    ∙ sym (heard-then (L .window) kind serial (held L image serial kind) (takenIn L last image call) _)
+    ∙ sym (heard-append (L .window) kind (held L image serial kind) (cameFrom serial (takenIn L last image call)) _)
+    ∙ ap (heard (L .window) kind (held L image serial kind)) (sym (came-append serial (takenIn L last image call) _))
 
 -- ---- order and repetition decide nothing
 

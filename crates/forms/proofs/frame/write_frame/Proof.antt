@@ -1,7 +1,7 @@
 -- `frame::write_frame` meets its contract: each test that fails is one case of the number, and a known kind and flag are bytes.
 -- Assumes nothing.
 use borrow.Author.Needs.{needs}
-use mathlib.Core.Path.{_≡_, sym, _∙_}
+use mathlib.Core.Path.{_≡_, refl, sym, _∙_}
 use mathlib.Core.Bool.{true, false}
 use native.Mathlib.Omega.{arith}
 use denote.Ref.{now}
@@ -63,6 +63,7 @@ returns-4 c =
       le-ltb (length (now (a .out))) frameSize (c .before .before .before .before .if3 .left),
       put,
     )
+    refl
 
 pub write-frame-spec : {M : Type 1} → statement M
 write-frame-spec =

@@ -1,0 +1,164 @@
+/* A recorded run, dear images and sheets. All are the same at each run: nothing here is drawn by lot. */
+#include "inputs.h"
+
+#include <stdio.h>
+#include <stdlib.h>
+#include <string.h>
+
+#include "../tests/compare/words.h"
+
+enum { PLACES = 65536 };
+
+const unsigned sizes[SIZES] = {4, 7, MOST};
+struct event events[EVENTS];
+uint8_t shuffled[PEBRASSOLA_SHEET_BYTES(PEBRASSOLA_MOST_ENTRIES)], ascending[sizeof shuffled];
+
+static uint8_t out[PEBRASSOLA_OUT_BYTES];
+
+/* what is measured has to be what it is called */
+static void expect(int right, const char *what)
+{
+    if (right) return;
+    printf("inputs: %s\n", what);
+    exit(1);
+}
+
+static uint32_t serial(unsigned i)
+{
+    return 1000 + 37 * i;
+}
+
+void make_form(unsigned n, unsigned own, uint8_t *form)
+{
+    put4(form, n << 24 | (n - 1) / 3 << 16 | 8);
+    put4(form + 4, serial(own));
+    for (unsigned i = 0; i < n; i++) put4(form + PEBRASSOLA_FORM_BYTES(i), serial(i));
+}
+
+size_t boot(unsigned n, unsigned own, uint8_t *image)
+{
+    uint8_t form[PEBRASSOLA_FORM_BYTES(MOST)];
+    size_t size = PEBRASSOLA_IMAGE_BYTES(n);
+    make_form(n, own, form);
+    expect(pebrassola_boot(form, PEBRASSOLA_FORM_BYTES(n), image, size, out, sizeof out).number == PEBRASSOLA_DONE, "a form is refused");
+    return size;
+}
+
+/* ---- a recorded run: n correct nodes on a bus */
+
+struct message {
+    unsigned from, to;
+    uint8_t frame[PEBRASSOLA_FRAME_BYTES];
+};
+
+static struct message bus[PLACES];
+static unsigned first, waiting;
+
+static void post(unsigned n, unsigned from, unsigned records)
+{
+    for (unsigned r = 0; r < records; r++)
+        for (unsigned to = 0; to < n; to++) {
+            struct message *m = &bus[(first + waiting) % PLACES];
+            uint32_t destination = get4(out + 12 * r);
+            if (waiting == PLACES || (destination && destination != serial(to))) continue;
+            m->from = from;
+            m->to = to;
+            memcpy(m->frame, out + 12 * r + 4, sizeof m->frame);
+            waiting++;
+        }
+}
+
+void record_run(unsigned n)
+{
+    static uint8_t images[MOST][PEBRASSOLA_IMAGE_BYTES(MOST)];
+    unsigned taken = 0;
+    first = waiting = 0;
+    for (unsigned i = 0; i < n; i++) {
+        boot(n, i, images[i]);
+        post(n, i, 1);
+    }
+    while (taken < EVENTS && waiting) {
+        struct message m = bus[first];
+        first = (first + 1) % PLACES;
+        waiting--;
+        if (m.to == 0) {
+            events[taken].port = serial(m.from);
+            memcpy(events[taken++].frame, m.frame, sizeof m.frame);
+        }
+        post(n, m.to,
+             pebrassola_deliver(images[m.to], PEBRASSOLA_IMAGE_BYTES(n), serial(m.from), m.frame, sizeof m.frame, out, sizeof out).records);
+    }
+    expect(taken == EVENTS, "the recorded run ended early");
+}
+
+/* ---- dear images: every serial holds many ticks far above k, and none of them is held by more than f */
+
+/* where a tick may be held by a row so that at most f rows hold it: by all of a group of f rows, or by f rows in turn */
+static int may_hold(unsigned n, unsigned in_turn, uint32_t tick, unsigned i)
+{
+    return !in_turn || (tick + i) % n < (n - 1) / 3;
+}
+
+static void put_dear_set(uint8_t *set, unsigned n, unsigned in_turn, uint32_t top, unsigned i)
+{
+    uint8_t mask[8] = {0};
+    while (!may_hold(n, in_turn, top, i)) top--;
+    for (unsigned d = 0; d < 64; d++)
+        if (may_hold(n, in_turn, top - d, i)) mask[7 - d / 8] |= (uint8_t)(1 << d % 8);
+    put4(set, top);
+    memcpy(set + 4, mask, 8);
+}
+
+/* tops a gap apart, alone or in groups of f; active, or passive with dear inits as well; the frame changes nothing, or makes the lowest
+ * tick one that f + 1 hold, so that the node jumps and searches again */
+struct event make_dear(unsigned n, unsigned family, uint8_t *image)
+{
+    static const uint32_t gaps[] = {0, 1, 31, 63, 64, 65, 100};
+    unsigned f = (n - 1) / 3, grouped = family & 1, passive = family >> 1 & 1, jumps = family >> 2 & 1;
+    uint32_t gap = gaps[family >> 3], lowest = 1000;
+    struct event dear = {serial(0), {jumps ? 2 : 1}};
+    boot(n, 0, image);
+    image[2] = !passive;
+    for (unsigned i = 0; i < n; i++) {
+        uint32_t top = 1000 + gap * (grouped ? i / f : i);
+        uint8_t *row = image + PEBRASSOLA_IMAGE_BYTES(n - 1 - i);
+        put_dear_set(row + 4, n, gap < 64, top, i);
+        if (i == 0) lowest = get4(row + 4);
+        if (passive) put_dear_set(row + 16, n, gap < 64, top, i);
+    }
+    put4(dear.frame + 4, jumps ? lowest : 9);
+    return dear;
+}
+
+/* ---- sheets */
+
+enum { CLOCK = 50 };
+
+/* neighbours are far apart, and each pack from 1 on has its place */
+uint32_t pack_at(unsigned place, unsigned count)
+{
+    return 1 + place * 77 % count;
+}
+
+size_t make_sheets(unsigned count)
+{
+    size_t length = PEBRASSOLA_SHEET_BYTES(count);
+    put4(shuffled, (uint32_t)count << 16 | 4);
+    for (unsigned i = 0; i < count; i++) {
+        uint8_t *entry = shuffled + PEBRASSOLA_SHEET_BYTES(i);
+        put4(entry, pack_at(i, count));
+        put4(entry + 4, CLOCK - i % 3);
+        put4(entry + 8, CLOCK + i % 3);
+    }
+    expect(pebrassola_write_sheet(shuffled + 4, length - 4, ascending, length).number == PEBRASSOLA_DONE, "a sheet is refused");
+    return length;
+}
+
+size_t make_asking(unsigned n, uint8_t *image)
+{
+    size_t size = boot(n, 0, image);
+    image[2] = 1;
+    put4(image + 8, CLOCK);
+    put4(image + 12, CLOCK);
+    return size;
+}

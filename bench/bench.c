@@ -1,7 +1,7 @@
 /*
  * What a call costs in time: nanoseconds of deliver and read at n = 4, 7 and 32 over a recorded run, beside the plain C model of
  * tests/compare, in one run of one program, as ratios; the dearest sound image that we know for one deliver; the same for sheets of 1,
- * 20 and 200 entries. Prints the tables of docs/PERFORMANCE.md. What it costs in stack: tests/stack.
+ * 20 and 200 entries. Prints the tables of time in docs/PERFORMANCE.md. What it costs in stack: tests/stack.
  */
 #define _XOPEN_SOURCE 600
 #include <stdio.h>
@@ -122,9 +122,7 @@ static unsigned dearest(unsigned n, size_t size)
     double most = 0;
     for (unsigned family = 0; family < FAMILIES; family++) {
         struct event dear = make_dear(n, family, fresh);
-        double time;
-        if (proved_read(fresh, size).number == PEBRASSOLA_IMAGE) continue;
-        time = time_dear(proved_deliver, size, &dear);
+        double time = time_dear(proved_deliver, size, &dear);
         if (most < time) most = time, which = family;
     }
     return which;

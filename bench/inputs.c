@@ -127,6 +127,7 @@ struct event make_dear(unsigned n, unsigned family, uint8_t *image)
         if (passive) put_dear_set(row + 16, n, gap < 64, top, i);
     }
     put4(dear.frame + 4, jumps ? lowest : 9);
+    expect(pebrassola_read(image, PEBRASSOLA_IMAGE_BYTES(n)).number != PEBRASSOLA_IMAGE, "a dear image is not sound");
     return dear;
 }
 
@@ -154,11 +155,10 @@ size_t make_sheets(unsigned count)
     return length;
 }
 
-size_t make_asking(unsigned n, uint8_t *image)
+void make_asking(unsigned n, uint8_t *image)
 {
-    size_t size = boot(n, 0, image);
+    boot(n, 0, image);
     image[2] = 1;
     put4(image + 8, CLOCK);
     put4(image + 12, CLOCK);
-    return size;
 }

@@ -36,6 +36,6 @@ extern uint8_t ascending[PEBRASSOLA_SHEET_BYTES(PEBRASSOLA_MOST_ENTRIES)];
 size_t make_sheets(unsigned count);
 
 /* an idle active node that may ask for packs of these sheets */
-size_t make_asking(unsigned n, uint8_t *image);
+void make_asking(unsigned n, uint8_t *image);
 
 #endif

@@ -8,10 +8,10 @@
  * pack number and buffer is handled, or refused with a number of enum pebrassola_number. A refusal reports nothing else (the other
  * field of the answer is 0) and changes no byte.
  *
- * The caller's only duty: each pointer is to real memory of the stated length, and the buffers of one call do not overlap. A buffer
- * of length 0 may have any pointer. Nothing is kept between calls: a node is its image and nothing else, so one program may run any
- * number of nodes, and an image may be copied, stored and moved between calls. The calls use no heap and no global data, and call nothing
- * outside the archive: it links without a C library.
+ * The caller's duty: each pointer is to real memory of the stated length, and the buffers of one call do not overlap. A buffer of
+ * length 0 may have any pointer. Interrupts have a stack of their own (see the figures of the stack). Nothing is kept between calls: a
+ * node is its image and nothing else, so one program may run any number of nodes, and an image may be copied, stored and moved between
+ * calls. The calls use no heap and no global data, and call nothing outside the archive: it links without a C library.
  *
  * Link with libpebrassola.a (x86-64), which `rt staticlib pebrassola` writes.
  */
@@ -48,15 +48,18 @@ extern "C" {
 #define PEBRASSOLA_MOST_ENTRIES 200u
 
 /*
- * What a call takes of the stack at most, in bytes, whatever it is handed, its return address included; the last is the greatest of the
- * five. The caller adds its own frames, the last argument of deliver, which passes on the stack, and interrupts that use the same stack.
- * These leave alone the 128 bytes below the stack pointer, as the x86-64 convention asks: the calls use them, and the figures count that.
+ * What a call of the x86-64 archive takes of the stack at most, in bytes, whatever it is handed, its return address included; the last is
+ * the greatest of the five. The caller adds its own frames and the last argument of deliver, which passes on the stack.
+ *
+ * The calls keep to the System V convention, by which a function may use the 128 bytes below its stack pointer; the figures count them.
+ * An interrupt that the processor puts on the same stack would overwrite these bytes: interrupts need a stack of their own. Signals of an
+ * operating system step over them.
  */
-#define PEBRASSOLA_BOOT_STACK_BYTES 192u
-#define PEBRASSOLA_DELIVER_STACK_BYTES 496u
-#define PEBRASSOLA_READ_STACK_BYTES 368u
-#define PEBRASSOLA_PACK_STACK_BYTES 416u
-#define PEBRASSOLA_WRITE_SHEET_STACK_BYTES 176u
+#define PEBRASSOLA_BOOT_STACK_BYTES 312u
+#define PEBRASSOLA_DELIVER_STACK_BYTES 520u
+#define PEBRASSOLA_READ_STACK_BYTES 392u
+#define PEBRASSOLA_PACK_STACK_BYTES 440u
+#define PEBRASSOLA_WRITE_SHEET_STACK_BYTES 296u
 #define PEBRASSOLA_STACK_BYTES PEBRASSOLA_DELIVER_STACK_BYTES
 
 /* The number given back; the first that applies, in the order that each call names. */

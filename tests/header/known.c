@@ -1,6 +1,6 @@
 /*
  * The header against the archive, by answers that the papers settle and with no model between: W1 to W9 of document 01, a sheet for A1
- * of document 02, frames and two idle controllers for A2, the limit of A3, and a call for each number.
+ * of document 02, frames and two idle controllers for A2, and a call for each number.
  * The archive puts an answer's fields where its own struct has them, and a C compiler knows only the header's struct: so each field is
  * looked at where its value is known and the other field's is another. Sizes, places and numbers are looked at when this is compiled,
  * unless CALLS_ALONE is defined: then the calls have to notice by themselves. Prints what is wrong and a count; ends with status 1
@@ -44,13 +44,6 @@ SETTLED(forms, PEBRASSOLA_FORM_BYTES(4) == 24 && PEBRASSOLA_MOST_CONTROLLERS == 
 SETTLED(images, PEBRASSOLA_IMAGE_BYTES(4) == 144 && PEBRASSOLA_IMAGE_BYTES(32) == 928);
 SETTLED(frames, PEBRASSOLA_FRAME_BYTES == 8 && PEBRASSOLA_LAST_TICK == 4000000000u);
 SETTLED(outputs, PEBRASSOLA_RECORD_BYTES == 12 && PEBRASSOLA_OUT_BYTES == 192);
-
-/* A3, by the preprocessor, since that is where a budget is worked out; tests/stack holds the figures to the archive */
-#if PEBRASSOLA_BOOT_STACK_BYTES > 2048 || PEBRASSOLA_DELIVER_STACK_BYTES > 2048
-#error "boot or deliver takes more than 2 KiB of stack"
-#elif PEBRASSOLA_READ_STACK_BYTES > 2048 || PEBRASSOLA_PACK_STACK_BYTES > 2048
-#error "read or pack takes more than 2 KiB of stack"
-#endif
 #endif
 
 /* bytes 0 and 1 of a frame, as one number: kind and flag (A2) */

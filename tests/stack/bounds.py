@@ -1,10 +1,13 @@
 """What each exported call takes of the stack at most, for any input, told from the code of an archive or an object file for x86-64.
 
-Prints a line for each exported function: its name and the bytes from the caller's stack pointer at the call down to the lowest one that
-may be written. A function's frame is its return address, all that it pushes and all that it takes off the stack pointer, wherever it
-does so. Below that lies the deepest function that it calls, or what it writes below the stack pointer itself. What this does not cover
-is refused, with the reason: a function that comes back to itself, a call through a pointer or out of the file, a stack pointer that
-moves by what is no number, a frame pointer, code that does not lie in a section of its own.
+Prints a line for each exported function: its name, and the bytes from the caller's stack pointer at the call down to the lowest one that
+may be written. Each function is followed along every way through it, and with it how deep the stack pointer stands; at a call, what the
+called function takes comes on top. Below the deepest stack pointer lie the 128 bytes that the System V convention lets a function write
+without moving it: they count whether they are written or not.
+
+What this does not cover is refused, with the reason: a function that comes back to itself, a call through a pointer or out of the file,
+a stack pointer that moves by what is no number or stands at two depths at one place, code in no section of its own, a line of the
+listing that is not known.
 
 usage: bounds.py FILE
 """
@@ -13,103 +16,211 @@ import re
 import subprocess
 import sys
 
-POINTER = 8  # bytes that a call or a push puts on the stack
+SLOT = 8  # bytes that a call or a push puts on the stack
+RED_ZONE = 128
 
-FUNCTION = re.compile(r'[0-9a-f]+ <(.+)>:$')
+MEMBER = re.compile(r'.+: +file format (\S+)$')
+SYMBOL = re.compile(r'[0-9a-f]+ (.{7}) (\S+)\t[0-9a-f]+ +(?:\.(?:hidden|internal|protected) )?(.+)$')
 CODE = re.compile(r'Disassembly of section (.+):$')
+FUNCTION = re.compile(r'[0-9a-f]+ <(.+)>:$')
+INSTRUCTION = re.compile(r' *([0-9a-f]+):\t(?:(?:bnd|notrack|rex\S*|data16|[cd]s|lock|rep\w*) +)*(\w+) *([^#]*)')
+RELOCATION = re.compile(r'\s*[0-9a-f]+:?\s+R_\S+\s+(.+?)([-+]0x[0-9a-f]+)?$')
 TABLE = re.compile(r'RELOCATION RECORDS FOR \[(.+)\]:$')
-INSTRUCTION = re.compile(r' *[0-9a-f]+:\t(?:(?:bnd|notrack|rex\S*|data16|[cd]s|lock|rep\w*) +)*(\w+) *([^#]*)')
-RELOCATION = re.compile(r'\s*[0-9a-f]+:?\s+R_\S+\s+(.+?)(?:[-+]0x[0-9a-f]+)?$')
-EXPORTED = re.compile(r'[0-9a-f]+ g +F \S+\t[0-9a-f]+ (.+)$')
+
+STACK_POINTER = re.compile(r'(?<!\()%rsp\b|%(?:esp|spl?)\b')
+MOVED = re.compile(r'(sub|add) \$0x([0-9a-f]+),%rsp')
+UNKNOWN = re.compile(r'push.|pop.|enter|leave|loop|xbegin|l(call|jmp|ret)|iret|ret\w')
 
 
 class Refused(Exception):
     pass
 
 
+class Instruction:
+    def __init__(self, address, operation, operands):
+        self.address = int(address, 16)
+        self.operation = operation.removesuffix('q') if operation in ('callq', 'jmpq', 'retq', 'pushq', 'popq') else operation
+        self.operands = operands.strip()
+        self.leads_to = None  # the function or section that its relocation names
+        self.text = f'{self.operation} {self.operands}'
+
+
 class Function:
     def __init__(self):
-        self.frame = POINTER
-        self.below = 0  # bytes below the stack pointer that it writes itself
-        self.leads_to = []
+        self.deepest = 0  # how deep the stack pointer stands in its own code
+        self.calls = []  # functions that it calls, each with how deep the stack pointer stands there
         self.has_table = False  # of places in its own code
 
 
-def function_of(target):
+# ---- the listing
+
+
+def named(target):
     """The function that a relocation leads into, where it leads into one."""
     return target.removeprefix('.text.')
 
 
-def read_move(name, function, operation, operands):
-    """What an instruction does to the stack pointer, and what it writes below it."""
-    taken = re.fullmatch(r'\$0x([0-9a-f]+),%rsp', operands)
-    if operation in ('push', 'pushq'):
-        function.frame += POINTER
-    elif operation.startswith('push') or operation in ('enter', 'leave'):
-        raise Refused(f'{name}: {operation} is not known')
-    elif taken and operation in ('sub', 'add'):
-        by = int(taken[1], 16)
-        by -= by >> 63 << 64
-        function.frame += max(0, by if operation == 'sub' else -by)
-    elif re.search(r'(?<!\()%(rsp|esp|spl?)\b', operands) and not re.fullmatch(r'mov %rsp,%(?!rbp)r\w+', f'{operation} {operands}'):
-        raise Refused(f'{name}: the stack pointer moves, or is kept, by {operation} {operands}')
-    for below in re.findall(r'-0x([0-9a-f]+)\(%rsp', operands):
-        function.below = max(function.below, int(below, 16))
-
-
-def read_way(name, function, operation, operands, relocation, functions):
-    """Where an instruction may lead but to the next one."""
-    calls = operation.startswith('call')
-    if operands.startswith('*'):
-        if calls or not function.has_table:
-            raise Refused(f'{name}: calls through a pointer')
-    elif calls or operation.startswith('j'):
-        to = function_of(relocation) if relocation else re.search(r'<(.+?)(?:\+0x[0-9a-f]+)?>', operands)[1]
-        if to not in functions:
-            raise Refused(f'{name}: calls {to}, which is not in this file')
-        if calls or to != name:
-            function.leads_to.append(to)
-    elif relocation and function_of(relocation) in functions:
-        raise Refused(f'{name}: takes the address of {function_of(relocation)}')
+def read_symbol(line, exported):
+    match = SYMBOL.match(line)
+    if match and 'F' in match[1] and not match[1].startswith('l'):
+        exported.append(match[3])
 
 
 def read_code(listing):
-    """The functions of a listing by objdump -tdr, each with its instructions and their relocations."""
+    """The functions of a listing by objdump -tdr, each with its instructions, and the names that the file exports."""
     code, exported, section = {}, [], None
     for line in listing:
-        if match := EXPORTED.match(line):
-            exported.append(match[1])
+        if match := MEMBER.match(line):
+            section = None
+            if match[1] != 'elf64-x86-64':
+                raise Refused(f'{line}: is not x86-64')
         elif match := CODE.match(line):
             section = match[1]
+        elif section is None:
+            read_symbol(line, exported)
         elif match := FUNCTION.match(line):
-            if section != '.text.' + match[1]:
-                raise Refused(f'{match[1]}: is not alone in its section {section}')
+            if match[1] in code or section != '.text.' + match[1]:
+                raise Refused(f'{match[1]}: stands twice, or has no section of its own')
             instructions = code[match[1]] = []
         elif match := INSTRUCTION.match(line):
-            instructions.append([match[1], match[2].strip(), None])
+            instructions.append(Instruction(*match.groups()))
         elif match := RELOCATION.match(line):
-            instructions[-1][2] = match[1]
+            instructions[-1].leads_to = match[1]
+            if named(match[1]) != match[1] and match[2] != '-0x4':
+                raise Refused(f'{match[0].strip()}: leads into the middle of a function')
+        elif line:
+            raise Refused(f'{line.strip()}: is not known')
     return code, exported
 
 
 def read_tables(listing, functions):
-    """Addresses of code, which stand in a table of the function that they lie in and nowhere else: so a jump by a table stays inside."""
+    """Addresses of code stand in a table of the function that they lie in, and nowhere else: so a jump by a table stays inside."""
     for line in listing:
         if match := TABLE.match(line):
             section = match[1]
         elif (match := RELOCATION.match(line)) and not section.startswith(('.text', '.eh_frame', '.llvm', '.debug')):
-            to = function_of(match[1])
+            to = named(match[1])
             if to in functions and section != '.rodata.' + to:
                 raise Refused(f'{section}: holds the address of {to}')
             if to in functions:
                 functions[to].has_table = True
 
 
+# ---- the way through a function
+
+
+def descent(name, instruction):
+    """How far an instruction takes the stack pointer down."""
+    if moved := MOVED.fullmatch(instruction.text):
+        by = int(moved[2], 16)
+        by -= by >> 63 << 64
+        return by if moved[1] == 'sub' else -by
+    read_alone = re.fullmatch(r'mov %rsp,%r\w+', instruction.text)
+    if UNKNOWN.match(instruction.operation) or STACK_POINTER.search(instruction.operands) and not read_alone:
+        raise Refused(f'{name}: the stack pointer moves by {instruction.text}, which is not known')
+    return {'push': SLOT, 'pop': -SLOT}.get(instruction.operation, 0)
+
+
+def jumps_by_table(name, function, instruction, before):
+    """Whether a jump to an address goes by the function's own table: from it, or by a sum that was made with it just before."""
+    if instruction.operation != 'jmp' or not function.has_table:
+        return False
+    if instruction.leads_to:
+        return instruction.leads_to == '.rodata.' + name
+    return before.operation == 'add' and before.operands.endswith(',' + instruction.operands.removeprefix('*'))
+
+
+class Way:
+    """One function, followed from its start."""
+
+    def __init__(self, name, instructions, functions):
+        self.name, self.instructions, self.functions = name, instructions, functions
+        self.function = functions[name]
+        self.places = {instruction.address: place for place, instruction in enumerate(instructions)}
+        self.depths = {}
+        self.table_depths = set()
+        self.todo = [(0, SLOT)]
+
+    def follow(self):
+        while self.todo:
+            self.step(*self.todo.pop())
+            if not self.todo and self.table_depths:
+                self.take_up_rest()
+
+    def take_up_rest(self):
+        """What nothing else leads to is led to by a table; fillers between loops are not."""
+        filler = re.compile(r'nop|xchg %ax,%ax')
+        rest = [place for place, i in enumerate(self.instructions) if place not in self.depths and not filler.match(i.text)]
+        if len(self.table_depths) > 1:
+            raise Refused(f'{self.name}: jumps by tables at two depths')
+        if rest:
+            self.todo.append((rest[0], *self.table_depths))
+
+    def step(self, place, depth):
+        if place == len(self.instructions):
+            raise Refused(f'{self.name}: runs over its end')
+        instruction = self.instructions[place]
+        if self.depths.setdefault(place, depth) != depth:
+            raise Refused(f'{self.name}: the stack pointer stands at two depths at {instruction.address:x}')
+        depth += descent(self.name, instruction)
+        self.function.deepest = max(self.function.deepest, depth)
+        for to in self.ways_on(place, instruction, depth):
+            if self.depths.get(to) != depth:
+                self.todo.append((to, depth))
+
+    def ways_on(self, place, instruction, depth):
+        """The places in this function that may come next."""
+        operation = instruction.operation
+        if operation == 'ret':
+            self.leave(depth)
+            return []
+        if operation == 'ud2':
+            return []
+        if operation == 'call':
+            self.call(instruction, depth)
+        elif operation.startswith('j'):
+            return self.jump(place, instruction, depth) + ([] if operation == 'jmp' else [place + 1])
+        elif instruction.leads_to and named(instruction.leads_to) in self.functions:
+            raise Refused(f'{self.name}: takes the address of {named(instruction.leads_to)}')
+        return [place + 1]
+
+    def call(self, instruction, depth):
+        if instruction.operands.startswith('*'):
+            raise Refused(f'{self.name}: calls through a pointer')
+        self.function.calls.append((self.target(instruction), depth))
+
+    def jump(self, place, instruction, depth):
+        if instruction.operands.startswith('*'):
+            if not jumps_by_table(self.name, self.function, instruction, self.instructions[place - 1]):
+                raise Refused(f'{self.name}: jumps through a pointer')
+            self.table_depths.add(depth)
+            return []
+        to = self.target(instruction)
+        if to == self.name:
+            return [self.places[int(instruction.operands.split()[0], 16)]]
+        self.leave(depth)
+        self.function.calls.append((to, 0))
+        return []
+
+    def target(self, instruction):
+        to = named(instruction.leads_to) if instruction.leads_to else re.search(r'<(.+?)(?:\+0x[0-9a-f]+)?>', instruction.operands)[1]
+        if to not in self.functions:
+            raise Refused(f'{self.name}: calls {to}, which is not in this file')
+        return to
+
+    def leave(self, depth):
+        if depth != SLOT:
+            raise Refused(f'{self.name}: leaves the stack pointer {depth - SLOT} bytes too low')
+
+
+# ---- the answer
+
+
 def deepest(name, functions, above=()):
     if name in above:
         raise Refused(f'{name}: comes back to itself')
     function = functions[name]
-    return function.frame + max([function.below] + [deepest(to, functions, above + (name,)) for to in function.leads_to])
+    return max([function.deepest] + [depth + deepest(to, functions, above + (name,)) for to, depth in function.calls])
 
 
 def objdump(option, file):
@@ -118,23 +229,22 @@ def objdump(option, file):
     return run.stdout.splitlines()
 
 
-def main(file):
+def bounds(file):
     code, exported = read_code(objdump('-tdr', file))
     functions = {name: Function() for name in code}
     read_tables(objdump('-r', file), functions)
     for name, instructions in code.items():
-        for operation, operands, relocation in instructions:
-            read_move(name, functions[name], operation, operands)
-            read_way(name, functions[name], operation, operands, relocation, functions)
+        Way(name, instructions, functions).follow()
     for name in exported:
-        print(name, deepest(name, functions))
-    if not exported:
-        raise Refused('exports no function')
+        if name not in functions:
+            raise Refused(f'{name}: has no code of its own')
+        yield name, deepest(name, functions) + RED_ZONE
 
 
 if len(sys.argv) != 2:
     sys.exit('usage: bounds.py FILE')
 try:
-    main(sys.argv[1])
+    for line in bounds(sys.argv[1]):
+        print(*line)
 except Refused as reason:
     sys.exit(f'bounds: {reason}')

@@ -1,0 +1,131 @@
+/*
+ * Code that bounds.py has to refuse, a case each, since its stack has no bound or none that it tells; and one, KNOWN, whose bound is
+ * known. The run of tests/stack names a case by defining it.
+ */
+#define FUNCTION(name) .section .text.name, "ax", @progbits; .globl name; .type name, @function; name:
+#define LOCAL(name) .section .text.name, "ax", @progbits; .type name, @function; name:
+
+FUNCTION(pebrassola_case)
+#if defined KNOWN /* 8 + 8 + 64 to the call, 8 + 8 + 128 below it */
+    push %rbx
+    sub $64, %rsp
+    call helper
+    lea .Ltable(%rip), %rcx
+    movslq (%rcx, %rax, 4), %rax
+    add %rcx, %rax
+    jmp *%rax
+.Lby_table:
+    add $64, %rsp
+    pop %rbx
+    ret
+    .section .rodata.pebrassola_case, "a", @progbits
+.Ltable:
+    .long .Lby_table - .Ltable
+LOCAL(helper)
+    push %rbx
+    mov %rdi, -8(%rsp)
+    pop %rbx
+    ret
+#elif defined ITSELF
+    push %rbx
+    call pebrassola_case
+    pop %rbx
+    ret
+#elif defined EACH_OTHER
+    call other
+    ret
+LOCAL(other)
+    push %rbx
+    call pebrassola_case
+    pop %rbx
+    ret
+#elif defined LAST_CALL_EACH_OTHER
+    jmp other
+LOCAL(other)
+    call pebrassola_case
+    ret
+#elif defined CALL_BY_POINTER
+    call *%rsi
+    ret
+#elif defined JUMP_BY_POINTER
+    jmp *%rsi
+#elif defined JUMP_BY_POINTER_BESIDE_A_TABLE
+    lea .Ltable(%rip), %rcx
+    movslq (%rcx, %rax, 4), %rax
+    jmp *%rsi
+.Lby_table:
+    ret
+    .section .rodata.pebrassola_case, "a", @progbits
+.Ltable:
+    .long .Lby_table - .Ltable
+#elif defined JUMP_OUT_BESIDE_A_TABLE
+    jmp *other@GOTPCREL(%rip)
+.Lby_table:
+    ret
+    .section .rodata.pebrassola_case, "a", @progbits
+.Ltable:
+    .long .Lby_table - .Ltable
+FUNCTION(other)
+    sub $4000, %rsp
+    add $4000, %rsp
+    ret
+#elif defined ADDRESS_TAKEN
+    lea other(%rip), %rax
+    ret
+LOCAL(other)
+    ret
+#elif defined ADDRESS_IN_DATA
+    ret
+    .data
+    .quad pebrassola_case
+#elif defined OUTSIDE
+    call memmove
+    ret
+#elif defined MIDDLE
+    call other + 8
+    ret
+LOCAL(other)
+    sub $4000, %rsp
+    add $4000, %rsp
+    ret
+#elif defined MOVED_BY_A_LENGTH
+    sub %rdi, %rsp
+    add %rdi, %rsp
+    ret
+#elif defined MOVED_TO_A_MULTIPLE
+    and $-64, %rsp
+    ret
+#elif defined MOVED_BY_AN_ADDRESS
+    lea -4000(%rsp), %rsp
+    ret
+#elif defined MOVED_BY_A_REGISTER
+    mov %rdi, %rsp
+    ret
+#elif defined FRAME_LEFT
+    leave
+    ret
+#elif defined PUSHED_IN_A_LOOP
+.Lagain:
+    push %rax
+    dec %rdi
+    jne .Lagain
+    pop %rax
+    ret
+#elif defined NOT_GIVEN_BACK
+    push %rax
+    ret
+#elif defined OVER_ITS_END
+    push %rax
+#elif defined TWO_IN_A_SECTION
+    ret
+    .globl other
+    .type other, @function
+other:
+    sub $4000, %rsp
+    add $4000, %rsp
+    ret
+#elif defined NO_INSTRUCTION
+    .byte 0x06
+    ret
+#endif
+    .section .note.GNU-stack, "", @progbits

@@ -29,7 +29,7 @@ TABLE = re.compile(r'RELOCATION RECORDS FOR \[(.+)\]:$')
 
 STACK_POINTER = re.compile(r'(?<!\()%rsp\b|%(?:esp|spl?)\b')
 MOVED = re.compile(r'(sub|add) \$0x([0-9a-f]+),%rsp')
-UNKNOWN = re.compile(r'push.|pop.|enter|leave|loop|xbegin|l(call|jmp|ret)|iret|ret\w')
+UNKNOWN = re.compile(r'(push|pop)[afw]|enter|leave|loop|xbegin|l(call|jmp|ret)|iret|ret\w')
 
 
 class Refused(Exception):
@@ -41,7 +41,7 @@ class Instruction:
         self.address = int(address, 16)
         self.operation = operation.removesuffix('q') if operation in ('callq', 'jmpq', 'retq', 'pushq', 'popq') else operation
         self.operands = operands.strip()
-        self.leads_to = None  # the function or section that its relocation names
+        self.leads_to = self.addend = None  # the function or section that its relocation names, and how far from its start
         self.text = f'{self.operation} {self.operands}'
 
 
@@ -85,9 +85,9 @@ def read_code(listing):
         elif match := INSTRUCTION.match(line):
             instructions.append(Instruction(*match.groups()))
         elif match := RELOCATION.match(line):
-            instructions[-1].leads_to = match[1]
-            if named(match[1]) != match[1] and match[2] != '-0x4':
-                raise Refused(f'{match[0].strip()}: leads into the middle of a function')
+            if instructions[-1].leads_to:
+                raise Refused(f'{instructions[-1].text}: has two relocations')
+            instructions[-1].leads_to, instructions[-1].addend = match.groups()
         elif line:
             raise Refused(f'{line.strip()}: is not known')
     return code, exported
@@ -206,6 +206,8 @@ class Way:
         to = named(instruction.leads_to) if instruction.leads_to else re.search(r'<(.+?)(?:\+0x[0-9a-f]+)?>', instruction.operands)[1]
         if to not in self.functions:
             raise Refused(f'{self.name}: calls {to}, which is not in this file')
+        if instruction.leads_to and instruction.addend != '-0x4':
+            raise Refused(f'{self.name}: calls into the middle of {to}')
         return to
 
     def leave(self, depth):
@@ -248,3 +250,5 @@ try:
         print(*line)
 except Refused as reason:
     sys.exit(f'bounds: {reason}')
+except subprocess.CalledProcessError:
+    sys.exit(f'bounds: no listing of {sys.argv[1]}')

@@ -84,7 +84,7 @@ LOCAL(other)
 #elif defined MIDDLE
     call other + 8
     ret
-LOCAL(other)
+FUNCTION(other)
     sub $4000, %rsp
     add $4000, %rsp
     ret

@@ -113,7 +113,7 @@ def descent(name, instruction):
     """How far an instruction takes the stack pointer down."""
     if moved := MOVED.fullmatch(instruction.text):
         by = int(moved[2], 16)
-        by -= by >> 63 << 64
+        by -= by >> 63 << 64  # one below 0 is printed as 64 bits
         return by if moved[1] == 'sub' else -by
     read_alone = re.fullmatch(r'mov %rsp,%r\w+', instruction.text)
     if UNKNOWN.match(instruction.operation) or STACK_POINTER.search(instruction.operands) and not read_alone:
@@ -197,7 +197,7 @@ class Way:
             return []
         to = self.target(instruction)
         if to == self.name:
-            return [self.places[int(instruction.operands.split()[0], 16)]]
+            return [0 if instruction.leads_to else self.places[int(instruction.operands.split()[0], 16)]]
         self.leave(depth)
         self.function.calls.append((to, 0))
         return []

@@ -7,7 +7,7 @@ without moving it: they count whether they are written or not.
 
 What this does not cover is refused, with the reason: a function that comes back to itself, a call through a pointer or out of the file,
 a stack pointer that moves by what is no number or stands at two depths at one place, code in no section of its own, a line of the
-listing that is not known.
+listing that is not known. It trusts the compiler in one thing: that an address taken of a local variable is used inside that variable.
 
 usage: bounds.py FILE
 """
@@ -20,16 +20,19 @@ SLOT = 8  # bytes that a call or a push puts on the stack
 RED_ZONE = 128
 
 MEMBER = re.compile(r'.+: +file format (\S+)$')
-SYMBOL = re.compile(r'[0-9a-f]+ (.{7}) (\S+)\t[0-9a-f]+ +(?:\.(?:hidden|internal|protected) )?(.+)$')
+SYMBOL = re.compile(r'[0-9a-f]+ (.{7}) (.+)\t[0-9a-f]+ +(?:\.(?:hidden|internal|protected) )?(.+)$')
+NO_SYMBOL = re.compile(r'In archive .*:|SYMBOL TABLE:|')
 CODE = re.compile(r'Disassembly of section (.+):$')
 FUNCTION = re.compile(r'[0-9a-f]+ <(.+)>:$')
-INSTRUCTION = re.compile(r' *([0-9a-f]+):\t(?:(?:bnd|notrack|rex\S*|data16|[cd]s|lock|rep\w*) +)*(\w+) *([^#]*)')
+INSTRUCTION = re.compile(r' *([0-9a-f]+):\t(?:(?:bnd|notrack|rex\S*|data16|addr32|[c-gs]s|lock|rep\w*|xacquire|xrelease) +)*(\w+) *([^#]*)')
 RELOCATION = re.compile(r'\s*[0-9a-f]+:?\s+R_\S+\s+(.+?)([-+]0x[0-9a-f]+)?$')
 TABLE = re.compile(r'RELOCATION RECORDS FOR \[(.+)\]:$')
+ENTRY = re.compile(r'([0-9a-f]+) (R_\S+) +(.+?)(?:\+0x([0-9a-f]+))?$')
 
 STACK_POINTER = re.compile(r'(?<!\()%rsp\b|%(?:esp|spl?)\b')
 MOVED = re.compile(r'(sub|add) \$0x([0-9a-f]+),%rsp')
-UNKNOWN = re.compile(r'(push|pop)[afw]|enter|leave|loop|xbegin|l(call|jmp|ret)|iret|ret\w')
+UNKNOWN = re.compile(r'(push|pop)([afw]| %(?!r)| %r\d+[bdw])|enter|leave|loop|xbegin|l(call|jmp|ret)|iret|ret\w')
+BELOW = re.compile(r'-0x([0-9a-f]+)\(%rsp')
 
 
 class Refused(Exception):
@@ -49,7 +52,7 @@ class Function:
     def __init__(self):
         self.deepest = 0  # how deep the stack pointer stands in its own code
         self.calls = []  # functions that it calls, each with how deep the stack pointer stands there
-        self.has_table = False  # of places in its own code
+        self.table = []  # of places in its own code: where an entry stands, and the place and this distance on together
 
 
 # ---- the listing
@@ -62,7 +65,9 @@ def named(target):
 
 def read_symbol(line, exported):
     match = SYMBOL.match(line)
-    if match and 'F' in match[1] and not match[1].startswith('l'):
+    if not match and not NO_SYMBOL.fullmatch(line):
+        raise Refused(f'{line}: is not known')
+    if match and match[2].startswith('.text') and not match[1].startswith('l'):
         exported.append(match[3])
 
 
@@ -98,12 +103,12 @@ def read_tables(listing, functions):
     for line in listing:
         if match := TABLE.match(line):
             section = match[1]
-        elif (match := RELOCATION.match(line)) and not section.startswith(('.text', '.eh_frame', '.llvm', '.debug')):
-            to = named(match[1])
-            if to in functions and section != '.rodata.' + to:
+        elif (match := ENTRY.match(line)) and not section.startswith(('.text', '.eh_frame', '.llvm', '.debug')):
+            to = named(match[3])
+            if to in functions and (section != '.rodata.' + to or match[2] != 'R_X86_64_PC32'):
                 raise Refused(f'{section}: holds the address of {to}')
             if to in functions:
-                functions[to].has_table = True
+                functions[to].table.append((int(match[1], 16), int(match[4] or '0', 16)))
 
 
 # ---- the way through a function
@@ -116,18 +121,19 @@ def descent(name, instruction):
         by -= by >> 63 << 64  # one below 0 is printed as 64 bits
         return by if moved[1] == 'sub' else -by
     read_alone = re.fullmatch(r'mov %rsp,%r\w+', instruction.text)
-    if UNKNOWN.match(instruction.operation) or STACK_POINTER.search(instruction.operands) and not read_alone:
+    if UNKNOWN.match(instruction.text) or STACK_POINTER.search(instruction.operands) and not read_alone:
         raise Refused(f'{name}: the stack pointer moves by {instruction.text}, which is not known')
+    if any(int(below, 16) > RED_ZONE for below in BELOW.findall(instruction.operands)):
+        raise Refused(f'{name}: {instruction.text} lies too far below the stack pointer')
     return {'push': SLOT, 'pop': -SLOT}.get(instruction.operation, 0)
 
 
-def jumps_by_table(name, function, instruction, before):
-    """Whether a jump to an address goes by the function's own table: from it, or by a sum that was made with it just before."""
-    if instruction.operation != 'jmp' or not function.has_table:
+def jumps_by_table(instructions, place):
+    """Whether a jump to an address goes by a table: an entry is read, and the table's start is added to it."""
+    if place < 2 or not (to := re.fullmatch(r'jmp \*(%r\w+)', instructions[place].text)):
         return False
-    if instruction.leads_to:
-        return instruction.leads_to == '.rodata.' + name
-    return before.operation == 'add' and before.operands.endswith(',' + instruction.operands.removeprefix('*'))
+    added = re.fullmatch(r'add (%r\w+),' + to[1], instructions[place - 1].text)
+    return bool(added and re.fullmatch(r'movslq \(' + added[1] + r',%r\w+,4\),' + to[1], instructions[place - 2].text))
 
 
 class Way:
@@ -138,23 +144,20 @@ class Way:
         self.function = functions[name]
         self.places = {instruction.address: place for place, instruction in enumerate(instructions)}
         self.depths = {}
-        self.table_depths = set()
         self.todo = [(0, SLOT)]
 
     def follow(self):
         while self.todo:
             self.step(*self.todo.pop())
-            if not self.todo and self.table_depths:
-                self.take_up_rest()
 
-    def take_up_rest(self):
-        """What nothing else leads to is led to by a table; fillers between loops are not."""
-        filler = re.compile(r'nop|xchg %ax,%ax')
-        rest = [place for place, i in enumerate(self.instructions) if place not in self.depths and not filler.match(i.text)]
-        if len(self.table_depths) > 1:
-            raise Refused(f'{self.name}: jumps by tables at two depths')
-        if rest:
-            self.todo.append((rest[0], *self.table_depths))
+    def table_places(self):
+        """Where the function's tables lead. An entry has the distance of its place from the start of its table, which the code names."""
+        starts = [int(i.addend or '0', 16) + 4 for i in self.instructions if i.leads_to == '.rodata.' + self.name]
+        for at, entry in self.function.table:
+            start = max((start for start in starts if start <= at), default=None)
+            if start is None or entry - (at - start) not in self.places:
+                raise Refused(f'{self.name}: the entry at {at:x} of its table leads to no instruction')
+            yield self.places[entry - (at - start)]
 
     def step(self, place, depth):
         if place == len(self.instructions):
@@ -191,10 +194,9 @@ class Way:
 
     def jump(self, place, instruction, depth):
         if instruction.operands.startswith('*'):
-            if not jumps_by_table(self.name, self.function, instruction, self.instructions[place - 1]):
+            if not jumps_by_table(self.instructions, place) or not self.function.table:
                 raise Refused(f'{self.name}: jumps through a pointer')
-            self.table_depths.add(depth)
-            return []
+            return list(self.table_places())
         to = self.target(instruction)
         if to == self.name:
             return [0 if instruction.leads_to else self.places[int(instruction.operands.split()[0], 16)]]

@@ -6,7 +6,7 @@
 #define LOCAL(name) .section .text.name, "ax", @progbits; .type name, @function; name:
 
 FUNCTION(pebrassola_case)
-#if defined KNOWN /* 8 + 8 + 64 to the call, 8 + 8 + 128 below it */
+#if defined KNOWN /* 8 + 8 + 64 to the call, 8 + 8 + 128 below it; and 8 + 128 of a second one, which has no type */
     push %rbx
     sub $64, %rsp
     call helper
@@ -23,8 +23,12 @@ FUNCTION(pebrassola_case)
     .long .Lby_table - .Ltable
 LOCAL(helper)
     push %rbx
-    mov %rdi, -8(%rsp)
+    mov %rdi, -128(%rsp)
     pop %rbx
+    ret
+    .section .text.untyped, "ax", @progbits
+    .globl untyped
+untyped:
     ret
 #elif defined ITSELF
     push %rbx
@@ -39,6 +43,10 @@ LOCAL(other)
     call pebrassola_case
     pop %rbx
     ret
+#elif defined ITSELF_BEHIND_A_PREFIX
+    .byte 0x64
+    call pebrassola_case
+    ret
 #elif defined LAST_CALL_EACH_OTHER
     jmp other
 LOCAL(other)
@@ -51,10 +59,20 @@ LOCAL(other)
     jmp *%rsi
 #elif defined JUMP_BY_POINTER_BESIDE_A_TABLE
     lea .Ltable(%rip), %rcx
-    movslq (%rcx, %rax, 4), %rax
+    add %rdi, %rsi
     jmp *%rsi
 .Lby_table:
     ret
+    .section .rodata.pebrassola_case, "a", @progbits
+.Ltable:
+    .long .Lby_table - .Ltable
+#elif defined TABLE_BACK_TO_ANOTHER_DEPTH
+.Lby_table:
+    sub $4000, %rsp
+    lea .Ltable(%rip), %rcx
+    movslq (%rcx, %rax, 4), %rax
+    add %rcx, %rax
+    jmp *%rax
     .section .rodata.pebrassola_case, "a", @progbits
 .Ltable:
     .long .Lby_table - .Ltable
@@ -101,6 +119,13 @@ FUNCTION(other)
 #elif defined MOVED_BY_A_REGISTER
     mov %rdi, %rsp
     ret
+#elif defined MOVED_BY_HALF_A_SLOT
+    push %ax
+    pop %ax
+    ret
+#elif defined FAR_BELOW
+    mov %rdi, -136(%rsp)
+    ret
 #elif defined FRAME_LEFT
     leave
     ret
@@ -124,6 +149,10 @@ other:
     sub $4000, %rsp
     add $4000, %rsp
     ret
+#elif defined TWO_NAMES
+    ret
+    .globl other
+    .set other, pebrassola_case
 #elif defined NO_INSTRUCTION
     .byte 0x06
     ret

@@ -212,13 +212,14 @@ static void read_bounds(void)
 {
     char name[64];
     unsigned most;
-    while (scanf("%63s %u", name, &most) == 2) {
+    int parts;
+    while ((parts = scanf("%63s %u", name, &most)) == 2) {
         unsigned w = 0;
         while (w < ROWS && strcmp(name, rows[w].name)) w++;
         if (w < ROWS) rows[w].most = most;
         else printf("stack: %s is exported and not measured\n", name), wrong++;
     }
-    if (!feof(stdin)) puts("stack: a line of the bounds is no name and number"), wrong++;
+    if (parts != EOF) puts("stack: a line of the bounds is no name and number"), wrong++;
     for (unsigned w = 0; w < ROWS; w++)
         if (!rows[w].most) printf("stack: nothing says what %s takes at most\n", rows[w].name), wrong++;
 }
@@ -250,6 +251,7 @@ int main(void)
     }
     for (unsigned w = 0; w < ROWS; w++) judge(&rows[w]);
     if (PEBRASSOLA_STACK_BYTES != greatest) puts("stack: PEBRASSOLA_STACK_BYTES is not the greatest of the header's figures"), wrong++;
-    printf("stack: %u calls painted, none takes more than %u of %u bytes, %u wrong\n", painted_calls, greatest, LIMIT, wrong);
+    if (!wrong) printf("stack: no call takes more than %u of %u bytes\n", greatest, LIMIT);
+    printf("stack: %u calls painted, %u wrong\n", painted_calls, wrong);
     return wrong != 0;
 }

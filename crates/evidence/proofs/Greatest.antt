@@ -5,7 +5,7 @@ use mathlib.Core.Path.{_≡_, refl, subst}
 use mathlib.Core.Bool.{Bool, true, false, cond, and-eq-true-iff}
 use mathlib.Core.List.{List, [], _∷_}
 use Prim.Native.Nat.{ℕ, zero, suc, _+_, _-_, _≤_, _<_}
-use native.Mathlib.Decide.{decLt, ℕ-discrete}
+use native.Mathlib.Decide.{decLe, decLt, ℕ-discrete}
 use native.Mathlib.Omega.{arith}
 use borrow.Author.Tests.{le-leb, eq-eqb, leb-true, leb-false, eqb-true}
 use lib.Dec.{leb, eqb}
@@ -135,3 +135,20 @@ module _ (w kind m low : ℕ) where
               | yes q ↦ let found = greatest-held u e in absurd (f u q (found .1) (found .2))
               | no n ↦ omega (arith, greatest-most t l p h)
             ]
+
+-- ---- no tick from low on is held by m
+
+module _ (w kind m : ℕ) (positive : 0 < m) where
+  pub none-few : (low : ℕ) (rows : List Row) → greatest w kind m low rows ≡ 0 → (t : ℕ) → low ≤ t → holders w kind t rows < m
+  none-few low rows e t p =
+      elim (decLe m (holders w kind t rows)) [
+        | yes h ↦ absurd (omega (arith, e, greatest-most w kind m low rows t p h (omega arith)))
+        | no h ↦ omega arith
+      ]
+
+  pub few-none : (low : ℕ) (rows : List Row) → ((t : ℕ) → low ≤ t → holders w kind t rows < m) → greatest w kind m low rows ≡ 0
+  few-none low rows few = greatest-none w kind m low rows (λ t p q r. omega (arith, few t p))
+
+  -- nor from a higher tick on
+  pub none-higher : (low high : ℕ) (rows : List Row) → low ≤ high → greatest w kind m low rows ≡ 0 → greatest w kind m high rows ≡ 0
+  none-higher low high rows p e = few-none high rows (λ t q. none-few low rows e t (omega arith))

@@ -6,6 +6,7 @@ use mathlib.Core.Bool.{Bool, true, false, cond, _&&_, and-eq-true-iff}
 use Prim.Native.Nat.{ℕ, zero, suc, _+_, _-_, _≤_, _<_}
 use native.Mathlib.Omega.{arith}
 use lib.Dec.{ltb, eqb}
+use lib.ListN.{length}
 use borrow.Author.Tests.{lt-ltb, le-ltb, ltb-true, eqb-true, eq-eqb, ne-eqb}
 use Rattle.fields.specs.Field.{field, words}
 use Rattle.forms.specs.Column.{count, twins, ascends}
@@ -51,6 +52,18 @@ count-once x (y ∷ l) e = go (eqb y x) refl (count-once x l (omega arith))
     go : (t : Bool) → eqb y x ≡ t → count x l ≤ 1 → cond t 1 0 + count x l ≤ 1
     go true q below = omega (arith, ap (λ (z : ℕ). count z l) (eqb-true y x q))
     go false q below = omega arith
+
+-- all that stands in a column of one line is one number
+pub count-alone : (x y : ℕ) (l : List ℕ) → length l ≤ 1 → (count x l ≡ 0 → ⊥) → (count y l ≡ 0 → ⊥) → x ≡ y
+unfolding count
+count-alone x y [] p q r = absurd (q refl)
+count-alone x y (z ∷ []) p q r = go (eqb z x) refl (eqb z y) refl q r
+  where
+    go : (a : Bool) → eqb z x ≡ a → (b : Bool) → eqb z y ≡ b → (cond a 1 0 + 0 ≡ 0 → ⊥) → (cond b 1 0 + 0 ≡ 0 → ⊥) → x ≡ y
+    go true e true f q r = sym (eqb-true z x e) ∙ eqb-true z y f
+    go true e false f q r = absurd (r refl)
+    go false e b f q r = absurd (q refl)
+count-alone x y (z ∷ u ∷ l) p q r = absurd (omega arith)
 
 -- ---- a column that ascends
 

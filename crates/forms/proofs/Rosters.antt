@@ -13,7 +13,7 @@ use borrow.Author.Tests.{lt-ltb, le-ltb, ltb-false, eq-eqb, ne-eqb}
 use Rattle.forms.specs.Column.{count, twins}
 use Rattle.forms.specs.Roster.{mostLines, rosterNumber}
 use Rattle.forms.specs.Table.{Twice}
-use Rattle.forms.proofs.Meaning.{twice-says, roster-says}
+use Rattle.forms.proofs.Meaning.{member-says, twice-says, roster-says}
 
 -- ---- the number of a roster
 
@@ -78,3 +78,8 @@ roster-twins f own serials z = elim (decLt 0 (twins serials)) [ yes p ↦ absurd
   where
     once : Twice serials → ⊥
     once = roster-says f own serials .exactly 0 .0 z .1 .1 .0
+
+-- the own serial stands in it
+pub roster-listed : (f own : ℕ) (serials : List ℕ) → rosterNumber f own serials ≡ 0 → count own serials ≡ 0 → ⊥
+roster-listed f own serials z e =
+    roster-says f own serials .exactly 0 .0 z .1 .1 .1 .0 (λ m. omega (arith, e, member-says own serials .1 m))

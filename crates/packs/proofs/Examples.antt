@@ -1,6 +1,7 @@
 -- The definitions at work on small sheets and on the edges of A1, computed by the checker: what a reader can compare with the paper.
 -- Assumes nothing.
 use mathlib.Core.Path.{_≡_, refl}
+use mathlib.Core.Bool.{false}
 use Prim.Native.Nat.{ℕ, _+_, _*_}
 use mathlib.Core.List.{List, [], _∷_, _++_, List·Permᴰ·swap}
 use lib.ListN.{replicate}
@@ -11,7 +12,7 @@ use Rattle.node.specs.Calls.{readNumber}
 use Rattle.node.specs.Image.{layout, fixedHeader, soundImage}
 use Rattle.packs.specs.Number.{notLicensed, notInForce, inForce}
 use Rattle.packs.specs.Sheet.{entrySize, mostEntries, entriesIn, entriesOf, packs, howMany, entriesNumber}
-use Rattle.packs.specs.Sheet.{entriesPlace, sheetNumber, sheetTold, entryOn, Reordered}
+use Rattle.packs.specs.Sheet.{entriesPlace, misplaced, sheetNumber, sheetTold, entryOn, Reordered}
 use Rattle.packs.specs.Question.{licence, refusedPack, packNumber, packTold}
 use Rattle.packs.specs.Writer.{insert, ascending, putEntry, putEntries, putSheet, writeNumber, sheetWritten}
 
@@ -68,7 +69,8 @@ standing :
 unfolding two licence entriesIn packs howMany count field
 standing = (refl, refl, refl, refl, refl, refl, refl)
 
--- 14: a length one less or one more, another offset, a count that the length does not bear out, no whole header, 201 entries
+-- 14: a length one less or one more, another offset, a count that the length does not bear out, no whole header, 201 entries; 200 are
+-- a layout
 layouts :
     (sheetNumber (sheet 1 4 (0 ∷ 0 ∷ 0 ∷ 9 ∷ 0 ∷ 0 ∷ 0 ∷ 20 ∷ 0 ∷ 0 ∷ 0 ∷ [])) ≡ 14)
     × (sheetNumber (sheet 1 4 (line 9 20 30 ++ 0 ∷ [])) ≡ 14)
@@ -77,21 +79,20 @@ layouts :
     × (sheetNumber (sheet 2 4 (line 9 20 30)) ≡ 14)
     × (sheetNumber (0 ∷ 0 ∷ 0 ∷ []) ≡ 14)
     × (sheetNumber (sheet (mostEntries + 1) 4 (replicate ((mostEntries + 1) * entrySize) 0)) ≡ 14)
+    × (misplaced (sheet mostEntries 4 (replicate (mostEntries * entrySize) 0)) ≡ false)
 unfolding sheetNumber field
-layouts = (refl, refl, refl, refl, refl, refl, refl)
+layouts = (refl, refl, refl, refl, refl, refl, refl, refl)
 
--- 15: pack 0; a pack that stands twice, even behind an entry with first above end; 200 entries are a layout, here of pack 0.
--- 16: first above end. 0: no entry at all
+-- 15: pack 0; a pack that stands twice, even behind an entry with first above end. 16: first above end. 0: no entry at all
 entries :
     (sheetNumber (sheet 1 4 (line 0 20 30)) ≡ 15)
     × (sheetNumber (sheet 2 4 (line 9 20 30 ++ line 9 40 50)) ≡ 15)
     × (sheetNumber (sheet 3 4 (line 5 31 30 ++ line 9 20 30 ++ line 9 40 50)) ≡ 15)
     × (sheetNumber (sheet 2 4 (line 5 31 30 ++ line 0 20 30)) ≡ 15)
-    × (sheetNumber (sheet mostEntries 4 (replicate (mostEntries * entrySize) 0)) ≡ 15)
     × (sheetNumber (sheet 2 4 (line 5 30 30 ++ line 9 31 30)) ≡ 16)
     × (sheetNumber (sheet 0 4 []) ≡ 0)
 unfolding sheetNumber entriesNumber entriesIn packs howMany count twins field
-entries = (refl, refl, refl, refl, refl, refl, refl)
+entries = (refl, refl, refl, refl, refl, refl)
 
 -- two entries given in descending order, written over 29 bytes: the sheet, and the byte behind it stays
 written :

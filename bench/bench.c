@@ -25,28 +25,28 @@ static struct model_result proved_deliver(uint8_t *i, size_t i_length, uint32_t 
                                           size_t o_length)
 {
     struct pebrassola_answer a = pebrassola_deliver(i, i_length, port, f, f_length, o, o_length);
-    struct model_result r = {a.number, a.records};
+    struct model_result r = {a.number, a.records, a.fired};
     return r;
 }
 
 static struct model_result proved_read(const uint8_t *i, size_t i_length)
 {
     struct pebrassola_reading a = pebrassola_read(i, i_length);
-    struct model_result r = {a.number, a.clock};
+    struct model_result r = {a.number, a.clock, 0};
     return r;
 }
 
 static struct model_result proved_pack(const uint8_t *s, size_t s_length, uint32_t pack, const uint8_t *i, size_t i_length)
 {
     struct pebrassola_licence a = pebrassola_pack(s, s_length, pack, i, i_length);
-    struct model_result r = {a.number, a.licence};
+    struct model_result r = {a.number, a.licence, 0};
     return r;
 }
 
 static struct model_result proved_write_sheet(const uint8_t *e, size_t e_length, uint8_t *o, size_t o_length)
 {
     struct pebrassola_written a = pebrassola_write_sheet(e, e_length, o, o_length);
-    struct model_result r = {a.number, a.written};
+    struct model_result r = {a.number, a.written, 0};
     return r;
 }
 

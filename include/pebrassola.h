@@ -5,7 +5,7 @@
  * force at the tick that a node's clock has, and write_sheet makes a sheet.
  *
  * All are calls on byte buffers that the caller owns. Nothing has to be checked before a call: every form, image, port, frame, sheet,
- * pack number and buffer is handled, or refused with a number of enum pebrassola_number. A refusal reports nothing else (the other
+ * pack number and buffer is handled, or refused with a number of enum pebrassola_number. A refusal reports nothing else (every other
  * field of the answer is 0) and changes no byte.
  *
  * The caller's duty: each pointer is to real memory of the stated length, and the buffers of one call do not overlap. A buffer of
@@ -62,6 +62,18 @@ extern "C" {
 #define PEBRASSOLA_WRITE_SHEET_STACK_BYTES 296u
 #define PEBRASSOLA_STACK_BYTES PEBRASSOLA_DELIVER_STACK_BYTES
 
+/*
+ * For a scheduler that allows each delivery a fixed time, and each controller a fixed share of the line. A delivery fires rules until
+ * none can fire; each firing is another look at the image's rows, and sends one record at most. The first figure is the allowance that
+ * request A6 fixes, and that the output's room is made for: how many rules one delivery may fire. The others are what is proved of this
+ * release where there are n controllers, and is attained: how many rules one delivery fires at most, and how many records it sends at
+ * most, an answer among them. Budgets may be checked where the firmware is compiled, as in
+ *     #if BASE_NANOSECONDS + FIRING_NANOSECONDS * PEBRASSOLA_PROVED_FIRED(4) > DELIVERY_NANOSECONDS
+ */
+#define PEBRASSOLA_MOST_FIRED 15u
+#define PEBRASSOLA_PROVED_FIRED(n) ((n) < 2 ? 7u : 4u)
+#define PEBRASSOLA_PROVED_RECORDS(n) ((n) < 2 ? 7u : 5u)
+
 /* The number given back; the first that applies, in the order that each call names. */
 enum pebrassola_number {
     PEBRASSOLA_DONE = 0,          /* success */
@@ -83,10 +95,11 @@ enum pebrassola_number {
     PEBRASSOLA_SHEET_TICKS = 16   /* an entry's first tick is above its end */
 };
 
-/* The number of a call, and how many records stand at the front of the output. */
+/* The number of a call, how many records stand at the front of the output, and how many times a rule fired: 0 for boot and on a refusal. */
 struct pebrassola_answer {
     uint32_t number;
     uint32_t records;
+    uint32_t fired;
 };
 
 /* The number of a call, and the clock: 0 unless the number is 0. */
@@ -123,8 +136,9 @@ struct pebrassola_answer pebrassola_boot(const uint8_t *form, size_t form_length
 
 /*
  * Takes one frame that the wiring delivered from the controller with this serial (the port). Own broadcasts count only when the
- * wiring delivers them back. Puts what the node has to send at the front of the output, at most 16 records. Gives 7, 8, 9, 10, 11 in
- * this order. Only mode, clock, last echo and the port's row of the image change.
+ * wiring delivers them back. Puts what the node has to send at the front of the output, at most PEBRASSOLA_PROVED_RECORDS(n) records, so
+ * that the room asked never runs out. Gives 7, 8, 9, 10, 11 in this order. Only mode, clock, last echo and the port's row of the image
+ * change.
  *
  * Echo 0 with flag 0 from another controller asks where the node stands: the first record is then an answer to it, with flag 1 and the
  * last echo that the node had sent before this call. A frame with flag 1 is never answered, so two controllers do not answer each other

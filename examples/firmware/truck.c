@@ -1,7 +1,8 @@
 /*
  * A truck with four controllers on a bus in memory, powered up one after another. Three run Pebrassola; the fourth lies: it answers
  * whatever it hears with frames of its own making, another one to each. Prints a line whenever a clock moves and whenever a pack of
- * the truck's sheet starts or ends on a controller, until the three are active and ten ticks on.
+ * the truck's sheet starts or ends on a controller, until the three are active and ten ticks on; then how many rules a delivery fired at
+ * most, beside what a scheduler has to allow for.
  */
 #include <stdio.h>
 #include <string.h>
@@ -31,6 +32,7 @@ static struct controller nodes[NODES];
 static uint8_t sheet[PEBRASSOLA_SHEET_BYTES(PACKS)];
 static struct message bus[PLACES];
 static unsigned first, waiting;
+static uint32_t most_fired; /* by one delivery */
 
 static void put_word(uint8_t *b, uint32_t v)
 {
@@ -116,6 +118,7 @@ static int take(const struct message *m)
     if (!c->powered) return 1;
     a = pebrassola_deliver(c->image, sizeof c->image, serials[m->from], m->frame, sizeof m->frame, out, sizeof out);
     if (a.number != PEBRASSOLA_DONE) return printf("%u refused a frame with %u\n", serials[m->to], a.number), 0;
+    if (most_fired < a.fired) most_fired = a.fired;
     send_records(m->to, out, a.records);
     return 1;
 }
@@ -169,7 +172,10 @@ int main(void)
         slowest = show(step);
         show_packs();
         if (slowest && !goal) goal = slowest + 10;
-        if (goal && slowest >= goal) return 0;
+        if (goal && slowest >= goal) {
+            printf("no delivery fired more than %u rules; a scheduler allows for %u\n", most_fired, PEBRASSOLA_PROVED_FIRED(NODES));
+            return 0;
+        }
     }
     puts("no common clock after 100000 steps");
     return 1;

@@ -1,12 +1,14 @@
 /*
  * Feeds the proved calls and the plain model the same calls and compares numbers, counts and every byte of every buffer, with guard
- * bytes around each: nodes.c boot, deliver and read, sheets.c pack and write_sheet. Fixed seed. Prints the calls and the differences;
- * ends with status 1 where there is one, or where too little was compared.
+ * bytes around each: nodes.c boot, deliver and read, sheets.c pack and write_sheet. Fixed seed. Prints the greatest figures of one
+ * delivery beside the header's, the calls and the differences; ends with status 1 where there is one, or where too little was compared.
  */
 #include "compare.h"
 
 #include <stdio.h>
 #include <string.h>
+
+#include "pebrassola.h"
 
 static unsigned long calls, differences;
 static uint64_t seed = 0x9E3779B97F4A7C15u;
@@ -49,13 +51,24 @@ void check(const char *call, int same)
     hold(call, same);
 }
 
+/* whether a delivery brought as much as the header allows one of n controllers */
+static int reached(struct figures most, unsigned n)
+{
+    return most.fired == PEBRASSOLA_PROVED_FIRED(n) && most.records == PEBRASSOLA_PROVED_RECORDS(n);
+}
+
 int main(void)
 {
     struct node_calls nodes = compare_nodes();
     struct sheet_calls sheets = compare_sheets();
+    printf("compare: one delivery brought up to %u of %u firings and %u of %u records where n is 1, %u of %u and %u of %u where it is "
+           "more\n",
+           nodes.alone.fired, PEBRASSOLA_PROVED_FIRED(1), nodes.alone.records, PEBRASSOLA_PROVED_RECORDS(1), nodes.of_several.fired,
+           PEBRASSOLA_PROVED_FIRED(2), nodes.of_several.records, PEBRASSOLA_PROVED_RECORDS(2));
     printf("compare: %lu calls (%lu random sound images; echo 0 of another %lu times as a broadcast, %lu times as an answer; %lu calls of "
            "sheets, each outcome %lu times or more), %lu differences\n",
            calls, nodes.sound_images, nodes.zeros[0], nodes.zeros[1], sheets.all, sheets.rarest, differences);
     if (calls < 600000 || nodes.sound_images < 1000 || nodes.zeros[0] < 1000 || nodes.zeros[1] < 1000) return 1;
+    if (!reached(nodes.alone, 1) || !reached(nodes.of_several, 2)) return 1;
     return differences != 0 || sheets.all < 200000 || sheets.rarest < 1000;
 }

@@ -22,9 +22,14 @@ void hold(const char *fact, int holds);
 
 /* ---- nodes.c */
 
+struct figures {
+    uint32_t fired, records; /* of one delivery, the greatest that came */
+};
+
 struct node_calls {
-    unsigned long sound_images; /* random images that were sound */
-    unsigned long zeros[2];     /* how often echo 0 of another serial was taken, by its flag: as a broadcast, as an answer */
+    unsigned long sound_images;       /* random images that were sound */
+    unsigned long zeros[2];           /* how often echo 0 of another serial was taken, by its flag: as a broadcast, as an answer */
+    struct figures alone, of_several; /* where n is 1, and where it is more */
 };
 
 /* every comparison of boot, deliver and read */

@@ -8,6 +8,7 @@
 struct model_result {
     uint32_t number;
     uint32_t value; /* records, the clock, the licence, or the bytes written */
+    uint32_t fired; /* how many times a rule fired, which only a delivery can do */
 };
 
 struct model_result model_boot(const uint8_t *form, size_t form_length, uint8_t *image, size_t image_length, uint8_t *out,

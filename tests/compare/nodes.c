@@ -1,6 +1,7 @@
 /*
  * Compares boot, deliver and read with the model: long valid runs with faulty senders, random images, every single-bit damage of sound
- * images, truncated and over-long buffers, empty ones with a pointer that may not be read, forms, frames and ports of all kinds.
+ * images, truncated and over-long buffers, empty ones with a pointer that may not be read, forms, frames and ports of all kinds, and the
+ * deliveries that bring most. No delivery may fire more rules or send more records than the header says.
  */
 #include <string.h>
 
@@ -23,11 +24,21 @@ static void lend_all(const uint8_t *given, size_t length, const uint8_t *kept, s
     lend_room(&out, o_length);
 }
 
-static uint32_t compare(const char *call, uint32_t number, uint32_t value, struct model_result m, uint8_t *kept)
+static uint32_t compare(const char *call, uint32_t number, uint32_t value, uint32_t fired, struct model_result m, uint8_t *kept)
 {
-    check(call, number == m.number && value == m.value && same(&image) && same(&out) && same(&in));
+    check(call, number == m.number && value == m.value && fired == m.fired && same(&image) && same(&out) && same(&in));
     if (image.plain.length) memcpy(kept, body(&image.plain), image.plain.length);
     return m.number;
+}
+
+/* holds what a delivery to a node of n controllers brought to the header's figures, and keeps the greatest */
+static void hold_figures(struct pebrassola_answer r, unsigned n)
+{
+    struct figures *most = n == 1 ? &counted.alone : &counted.of_several;
+    hold("deliver, rules fired", r.fired <= PEBRASSOLA_PROVED_FIRED(n));
+    hold("deliver, records", r.records <= PEBRASSOLA_PROVED_RECORDS(n));
+    if (most->fired < r.fired) most->fired = r.fired;
+    if (most->records < r.records) most->records = r.records;
 }
 
 static uint32_t boot(const uint8_t *f, size_t f_length, uint8_t *kept, size_t i_length, size_t o_length)
@@ -37,7 +48,7 @@ static uint32_t boot(const uint8_t *f, size_t f_length, uint8_t *kept, size_t i_
     lend_all(f, f_length, kept, i_length, o_length);
     r = pebrassola_boot(place(&in.proved), f_length, place(&image.proved), i_length, place(&out.proved), o_length);
     m = model_boot(place(&in.plain), f_length, place(&image.plain), i_length, place(&out.plain), o_length);
-    return compare("boot", r.number, r.records, m, kept);
+    return compare("boot", r.number, r.records, r.fired, m, kept);
 }
 
 static uint32_t deliver(uint8_t *kept, size_t i_length, uint32_t port, const uint8_t *fr, size_t fr_length, size_t o_length)
@@ -48,7 +59,8 @@ static uint32_t deliver(uint8_t *kept, size_t i_length, uint32_t port, const uin
     lend_all(fr, fr_length, kept, i_length, o_length);
     r = pebrassola_deliver(place(&image.proved), i_length, port, place(&in.proved), fr_length, place(&out.proved), o_length);
     m = model_deliver(place(&image.plain), i_length, port, place(&in.plain), fr_length, place(&out.plain), o_length);
-    number = compare("deliver", r.number, r.records, m, kept);
+    number = compare("deliver", r.number, r.records, r.fired, m, kept);
+    if (number == 0) hold_figures(r, kept[0]);
     if (number == 0 && fr[0] == 2 && get4(fr + 4) == 0 && port != get4(kept + 4)) counted.zeros[fr[1]]++;
     return number;
 }
@@ -60,7 +72,7 @@ static uint32_t read_clock(uint8_t *kept, size_t i_length)
     lend_all(NULL, 0, kept, i_length, 0);
     r = pebrassola_read(place(&image.proved), i_length);
     m = model_read(place(&image.plain), i_length);
-    return compare("read", r.number, r.clock, m, kept);
+    return compare("read", r.number, r.clock, 0, m, kept);
 }
 
 /* ---- what is fed */
@@ -213,6 +225,33 @@ static void forms(unsigned rounds)
     }
 }
 
+/* a frame that a run takes; serial and tick are below 256, and the flag is 0 */
+struct taken {
+    uint8_t port, kind, tick;
+};
+
+static void settled_run(const uint8_t *form, const struct taken *frames, unsigned count)
+{
+    uint8_t kept[MOST] = {0};
+    size_t size = PEBRASSOLA_IMAGE_BYTES(form[0]);
+    boot(form, PEBRASSOLA_FORM_BYTES(form[0]), kept, size, 192);
+    for (unsigned s = 0; s < count; s++) {
+        uint8_t fr[8] = {frames[s].kind, 0, 0, 0, 0, 0, 0, frames[s].tick};
+        deliver(kept, size, frames[s].port, fr, 8, 192);
+    }
+}
+
+/* the last frame of each run brings the most that one delivery can, where n is 1 and where it is more; random frames bring less of it */
+static void greatest_figures(void)
+{
+    static const uint8_t one[] = {1, 0, 0, 8, 0, 0, 0, 7, 0, 0, 0, 7};
+    static const uint8_t four[] = {4, 1, 0, 8, 0, 0, 0, 11, 0, 0, 0, 11, 0, 0, 0, 22, 0, 0, 0, 33, 0, 0, 0, 44};
+    static const struct taken alone[] = {{7, 2, 0}, {7, 1, 4}, {7, 2, 3}, {7, 2, 4}, {7, 1, 8}, {7, 2, 7}};
+    static const struct taken of_four[] = {{22, 1, 1}, {33, 1, 1}, {22, 1, 2}, {33, 1, 2}, {44, 2, 3}, {11, 2, 1}, {22, 2, 1}, {33, 2, 0}};
+    settled_run(one, alone, sizeof alone / sizeof alone[0]);
+    settled_run(four, of_four, sizeof of_four / sizeof of_four[0]);
+}
+
 /* each buffer of each call empty, alone and together with others */
 static void empty_buffers(unsigned n, unsigned faults)
 {
@@ -246,6 +285,7 @@ struct node_calls compare_nodes(void)
         unsigned n = 1 + any(32);
         random_image(n, any((n + 2) / 3));
     }
+    greatest_figures();
     empty_buffers(1, 0);
     empty_buffers(4, 1);
     empty_buffers(32, 10);

@@ -1,8 +1,8 @@
 /*
  * The header against the archive, by answers that the papers settle and with no model between: W1 to W9 of document 01, a sheet for A1
- * of document 02, frames and two idle controllers for A2, and a call for each number.
+ * of document 02, frames and two idle controllers for A2, the deliveries that bring most for A6, and a call for each number.
  * The archive puts an answer's fields where its own struct has them, and a C compiler knows only the header's struct: so each field is
- * looked at where its value is known and the other field's is another. Sizes, places and numbers are looked at when this is compiled,
+ * looked at where its value is known and any other field's is another. Sizes, places and numbers are looked at when this is compiled,
  * unless CALLS_ALONE is defined: then the calls have to notice by themselves. Prints what is wrong and a count; ends with status 1
  * where something is.
  */
@@ -15,15 +15,16 @@
 #ifndef CALLS_ALONE
 #define SETTLED(name, fact) typedef char name##_is_settled[(fact) ? 1 : -1]
 #define FIELD(type, field, at) SETTLED(type##_##field, offsetof(struct type, field) == (at) && sizeof(((struct type *)0)->field) == 4)
-#define ANSWER(type, field) \
-    FIELD(type, number, 0); \
-    FIELD(type, field, 4);  \
-    SETTLED(type, sizeof(struct type) == 8)
+#define ANSWER(type, field, bytes) \
+    FIELD(type, number, 0);        \
+    FIELD(type, field, 4);         \
+    SETTLED(type, sizeof(struct type) == (bytes))
 
-ANSWER(pebrassola_answer, records);
-ANSWER(pebrassola_reading, clock);
-ANSWER(pebrassola_licence, licence);
-ANSWER(pebrassola_written, written);
+ANSWER(pebrassola_answer, records, 12);
+FIELD(pebrassola_answer, fired, 8);
+ANSWER(pebrassola_reading, clock, 8);
+ANSWER(pebrassola_licence, licence, 8);
+ANSWER(pebrassola_written, written, 8);
 
 /* 01, "Numbers given back", by the names of their rows */
 SETTLED(numbers_of_all, PEBRASSOLA_DONE == 0);
@@ -44,6 +45,14 @@ SETTLED(forms, PEBRASSOLA_FORM_BYTES(4) == 24 && PEBRASSOLA_MOST_CONTROLLERS == 
 SETTLED(images, PEBRASSOLA_IMAGE_BYTES(4) == 144 && PEBRASSOLA_IMAGE_BYTES(32) == 928);
 SETTLED(frames, PEBRASSOLA_FRAME_BYTES == 8 && PEBRASSOLA_LAST_TICK == 4000000000u);
 SETTLED(outputs, PEBRASSOLA_RECORD_BYTES == 12 && PEBRASSOLA_OUT_BYTES == 192);
+
+/* A6, and what is proved beyond it, which most_alone and most_of_four attain */
+SETTLED(most_fired, PEBRASSOLA_MOST_FIRED == 15 && (PEBRASSOLA_MOST_FIRED + 1) * PEBRASSOLA_RECORD_BYTES == PEBRASSOLA_OUT_BYTES);
+SETTLED(fired, PEBRASSOLA_PROVED_FIRED(1) == 7 && PEBRASSOLA_PROVED_FIRED(2) == 4 && PEBRASSOLA_PROVED_FIRED(32) == 4);
+SETTLED(records, PEBRASSOLA_PROVED_RECORDS(1) == 7 && PEBRASSOLA_PROVED_RECORDS(2) == 5 && PEBRASSOLA_PROVED_RECORDS(32) == 5);
+#if PEBRASSOLA_PROVED_FIRED(4) > PEBRASSOLA_MOST_FIRED || PEBRASSOLA_PROVED_RECORDS(4) * PEBRASSOLA_RECORD_BYTES > PEBRASSOLA_OUT_BYTES
+#error "a figure of one delivery is no number that the preprocessor can budget with"
+#endif
 #endif
 
 /* bytes 0 and 1 of a frame, as one number: kind and flag (A2) */
@@ -59,6 +68,15 @@ static void expect(const char *call, uint32_t number, uint32_t value, uint32_t k
     if (number == known && value == known_value) return;
     wrong++;
     printf("%s: number %u with %u, and the papers say %u with %u\n", call, number, value, known, known_value);
+}
+
+static void expect_answer(const char *call, struct pebrassola_answer a, uint32_t known, uint32_t known_records, uint32_t known_fired)
+{
+    answers++;
+    if (a.number == known && a.records == known_records && a.fired == known_fired) return;
+    wrong++;
+    printf("%s: number %u with %u records, %u fired, and the papers say %u with %u, %u fired\n", call, a.number, a.records, a.fired, known,
+           known_records, known_fired);
 }
 
 static void expect_bytes(const char *call, size_t from, const uint8_t *known, size_t length)
@@ -87,19 +105,25 @@ static void expect_record(const char *call, unsigned place, uint32_t to, unsigne
 static void boot(const char *call, unsigned place, unsigned byte, uint32_t known)
 {
     uint8_t form[24] = {4, 1, 0, 8, 0, 0, 0, 11, 0, 0, 0, 11, 0, 0, 0, 22, 0, 0, 0, 33, 0, 0, 0, 44};
-    struct pebrassola_answer a;
     form[place] = (uint8_t)byte;
-    a = pebrassola_boot(form, sizeof form, image, size, out, room);
-    expect(call, a.number, a.records, known, known == 0);
+    expect_answer(call, pebrassola_boot(form, sizeof form, image, size, out, room), known, known == 0, 0);
 }
 
-static void deliver(const char *call, uint32_t port, unsigned head, uint32_t tick, uint32_t known, uint32_t known_records)
+static struct pebrassola_answer take(uint32_t port, unsigned head, uint32_t tick)
 {
     uint8_t frame[8];
-    struct pebrassola_answer a;
     put_frame(frame, head, tick);
-    a = pebrassola_deliver(image, size, port, frame, sizeof frame, out, room);
-    expect(call, a.number, a.records, known, known_records);
+    return pebrassola_deliver(image, size, port, frame, sizeof frame, out, room);
+}
+
+static void deliver(const char *call, uint32_t port, unsigned head, uint32_t tick, uint32_t known_records, uint32_t known_fired)
+{
+    expect_answer(call, take(port, head, tick), 0, known_records, known_fired);
+}
+
+static void try_deliver(const char *call, uint32_t port, unsigned head, uint32_t tick, uint32_t known)
+{
+    expect_answer(call, take(port, head, tick), known, 0, 0);
 }
 
 static void read_clock(const char *call, uint32_t known, uint32_t known_clock)
@@ -115,22 +139,22 @@ static void story(void)
     expect_record("W1", 0, 0, ECHO, 0);
     read_clock("W1 read", 12, 0);
     deliver("W2", 11, ECHO, 0, 0, 0);
-    deliver("W3", 22, ECHO, 0, 0, 1);
+    deliver("W3", 22, ECHO, 0, 1, 0);
     expect_record("W3", 0, 22, ECHO_ANSWER, 0);
-    deliver("W4", 33, ECHO, 0, 0, 2);
+    deliver("W4", 33, ECHO, 0, 2, 1);
     expect_record("W4", 0, 33, ECHO_ANSWER, 0);
     expect_record("W4", 1, 0, INIT, 1);
     read_clock("W4 read", 12, 0);
     deliver("W5", 11, INIT, 1, 0, 0);
-    deliver("W6", 22, INIT, 1, 0, 1);
+    deliver("W6", 22, INIT, 1, 1, 2); /* R1 sends echo 1, and R5 wakes the node without a record */
     expect_record("W6", 0, 0, ECHO, 1);
     read_clock("W6 read", 0, 1);
     deliver("W7", 44, ECHO, 1, 0, 0);
     deliver("W7", 33, ECHO, 5, 0, 0);
-    deliver("W8", 22, ECHO, 6, 0, 1);
+    deliver("W8", 22, ECHO, 6, 1, 1);
     expect_record("W8", 0, 0, ECHO, 4);
     read_clock("W8 read", 0, 4);
-    deliver("W9", 44, ECHO, 4, 0, 2);
+    deliver("W9", 44, ECHO, 4, 2, 2);
     expect_record("W9", 0, 0, INIT, 5);
     expect_record("W9", 1, 0, ECHO, 5);
     read_clock("W9 read", 0, 5);
@@ -146,16 +170,16 @@ static void refusals(void)
     boot("own serial 12", 7, 12, 5);
     size = 143;
     boot("image of 143 bytes", 0, 4, 6);
-    deliver("image of 143 bytes", 22, ECHO, 1, 8, 0);
+    try_deliver("image of 143 bytes", 22, ECHO, 1, 8);
     read_clock("image of 143 bytes", 8, 0);
     size = 144;
     room = 191;
     boot("output of 191 bytes", 0, 4, 7);
-    deliver("output of 191 bytes", 22, ECHO, 1, 7, 0);
+    try_deliver("output of 191 bytes", 22, ECHO, 1, 7);
     room = 192;
-    deliver("port 12", 12, ECHO, 1, 9, 0);
-    deliver("kind 3", 22, 0x0300, 1, 10, 0);
-    deliver("after the last tick", 22, ECHO, 4000000001u, 11, 0);
+    try_deliver("port 12", 12, ECHO, 1, 9);
+    try_deliver("kind 3", 22, 0x0300, 1, 10);
+    try_deliver("after the last tick", 22, ECHO, 4000000001u, 11);
     deliver("the last tick", 22, ECHO, 4000000000u, 0, 0);
 }
 
@@ -165,21 +189,21 @@ static void flags(void)
 {
     boot("a fresh node", 0, 4, 0);
     deliver("an answer", 22, ECHO_ANSWER, 0, 0, 0);
-    deliver("a broadcast after an answer", 22, ECHO, 0, 0, 1);
+    deliver("a broadcast after an answer", 22, ECHO, 0, 1, 0);
     expect_record("a broadcast after an answer", 0, 22, ECHO_ANSWER, 0);
     deliver("an answer again", 22, ECHO_ANSWER, 0, 0, 0);
     deliver("an answer of its own", 11, ECHO_ANSWER, 0, 0, 0);
-    deliver("W4 by an answer", 33, ECHO_ANSWER, 0, 0, 1); /* 11, 22 and 33 hold echo 0, as they do in W4 */
+    deliver("W4 by an answer", 33, ECHO_ANSWER, 0, 1, 1); /* 11, 22 and 33 hold echo 0, as they do in W4 */
     expect_record("W4 by an answer", 0, 0, INIT, 1);
     deliver("an answer of tick 5", 33, ECHO_ANSWER, 5, 0, 0);
-    deliver("another of tick 5", 44, ECHO_ANSWER, 5, 0, 1); /* f + 1 hold it: the node jumps to 4 */
+    deliver("another of tick 5", 44, ECHO_ANSWER, 5, 1, 1); /* f + 1 hold it: the node jumps to 4 */
     expect_record("another of tick 5", 0, 0, ECHO, 4);
-    deliver("echo 0 when 4 was sent", 44, ECHO, 0, 0, 1);
+    deliver("echo 0 when 4 was sent", 44, ECHO, 0, 1, 0);
     expect_record("echo 0 when 4 was sent", 0, 44, ECHO_ANSWER, 4);
-    deliver("an init with flag 1", 22, 0x0101, 1, 10, 0);
-    deliver("an echo with flag 2", 22, 0x0202, 0, 10, 0);
-    deliver("an echo with flag 255", 22, 0x02FF, 0, 10, 0);
-    deliver("an answer after the last tick", 22, ECHO_ANSWER, 4000000001u, 11, 0);
+    try_deliver("an init with flag 1", 22, 0x0101, 1, 10);
+    try_deliver("an echo with flag 2", 22, 0x0202, 0, 10);
+    try_deliver("an echo with flag 255", 22, 0x02FF, 0, 10);
+    try_deliver("an answer after the last tick", 22, ECHO_ANSWER, 4000000001u, 11);
 }
 
 /* two controllers that are up, and the frames under way between them */
@@ -220,6 +244,41 @@ static void idle(void)
         carry(to, a.records);
     }
     expect("two idle controllers: frames carried, and under way", carried, under_way, 6, 0);
+}
+
+/* ---- A6 */
+
+/* a controller that is alone; its last frame brings R2 and R3 three times each, at ticks 5, 6 and 7, and R1 at tick 8 */
+static void most_alone(void)
+{
+    static const uint8_t form[12] = {1, 0, 0, 8, 0, 0, 0, 7, 0, 0, 0, 7};
+    expect_answer("alone", pebrassola_boot(form, sizeof form, image, size, out, room), 0, 1, 0);
+    deliver("alone, echo 0", 7, ECHO, 0, 1, 1);
+    deliver("alone, init 4", 7, INIT, 4, 1, 1);
+    deliver("alone, echo 3", 7, ECHO, 3, 2, 2);
+    deliver("alone, echo 4", 7, ECHO, 4, 1, 1);
+    deliver("alone, init 8", 7, INIT, 8, 0, 0);
+    deliver("alone, echo 7", 7, ECHO, 7, 7, 7);
+    expect_record("alone, echo 7", 0, 0, ECHO, 5);
+    expect_record("alone, echo 7", 6, 0, ECHO, 8);
+    read_clock("alone, read", 0, 8);
+}
+
+/* one of four; the last frame is answered, and brings R3 and R1 twice each */
+static void most_of_four(void)
+{
+    boot("of four", 0, 4, 0);
+    deliver("of four, init 1", 22, INIT, 1, 0, 0);
+    deliver("of four, init 1 again", 33, INIT, 1, 0, 1); /* R5 without a record: the node wakes at tick 0, whose echo was sent at boot */
+    deliver("of four, init 2", 22, INIT, 2, 0, 0);
+    deliver("of four, init 2 again", 33, INIT, 2, 0, 0);
+    deliver("of four, echo 3", 44, ECHO, 3, 0, 0);
+    deliver("of four, echo 1", 11, ECHO, 1, 0, 0);
+    deliver("of four, echo 1 again", 22, ECHO, 1, 0, 0);
+    deliver("of four, echo 0", 33, ECHO, 0, 5, 4);
+    expect_record("of four, echo 0", 0, 33, ECHO_ANSWER, 0);
+    expect_record("of four, echo 0", 4, 0, ECHO, 2);
+    read_clock("of four, read", 0, 2);
 }
 
 /* ---- A1 */
@@ -295,6 +354,8 @@ int main(void)
     refusals();
     flags();
     idle();
+    most_alone();
+    most_of_four();
     sheets();
     printf("header: %u answers, %u wrong\n", answers, wrong);
     return wrong != 0;

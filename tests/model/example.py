@@ -29,7 +29,7 @@ def run():
 
     def boot(serial):
         images[serial], out = bytearray(node.HEADER + 4 * node.ROW), bytearray(node.ROOM)
-        _, records = node.boot(form(serial), images[serial], out)
+        _, records, _ = node.boot(form(serial), images[serial], out)
         send(serial, out, records)
 
     for step in range(240):  # so many that the clocks are at tick 4, which the entries of packs.py go by
@@ -49,7 +49,7 @@ def run():
         if dest == 11:
             log.append(sender.to_bytes(4, "big") + frame)
         out = bytearray(node.ROOM)
-        _, records = node.deliver(images[dest], sender, frame, out)
+        _, records, _ = node.deliver(images[dest], sender, frame, out)
         send(dest, out, records)
     head = b"".join(x.to_bytes(4, "big") for x in [len(log), 12, 12 + len(form(11))])
     return head + form(11) + b"".join(log), images

@@ -1,6 +1,6 @@
 #!/usr/bin/env python3
-"""Document 01 in Python, with the flag of request A2, written from the papers alone and sharing nothing with the Rattle crates: evidence
-is a set of numbers for each serial and kind, and the rules are tried as the paper lists them.
+"""Document 01 in Python, with A2's flag and A6's count of firings, written from the papers alone and sharing nothing with the Rattle
+crates: evidence is a set of numbers for each serial and kind, and the rules are tried as the paper lists them.
 
 usage: node.py < LOG      prints the listing of a log
 
@@ -155,18 +155,20 @@ def next_firing(node, evidence):
 
 
 def step(node, evidence, port, kind, flag, tick):
-    """One delivery: the node that follows and its records; the evidence is changed in place. A broadcast of echo 0 by another serial is
-    answered, an answer never; evidence and rules do not know the flag."""
+    """One delivery: the node that follows, its records and how many times a rule fired, with a record or without; the evidence is
+    changed in place. A broadcast of echo 0 by another serial is answered, an answer never; evidence and rules do not know the flag."""
     credit(evidence, port, kind, tick)
     asks = (kind, flag, tick) == (ECHO, BROADCAST, 0) and port != node.own
     records = [(port, ECHO, ANSWER, node.last)] if asks else []
-    while (fired := next_firing(node, evidence)) is not None:
-        node, said = fired
+    fired = 0
+    while (firing := next_firing(node, evidence)) is not None:
+        node, said = firing
         records += said
-    return node, records
+        fired += 1
+    return node, records, fired
 
 
-# The calls: each gives number and records, or number and clock
+# The calls: boot and deliver give number, records and rules fired, read gives number and clock
 
 
 def boot(form, image, out):
@@ -175,9 +177,9 @@ def boot(form, image, out):
         refuse_if(len(image) < HEADER + ROW * n, 6)
         refuse_if(len(out) < ROOM, 7)
     except Refused as why:
-        return why.args[0], 0
+        return why.args[0], 0, 0
     write_image(Node(n, f, own, False, 0, 0), {s: {ECHO: set(), INIT: set()} for s in serials}, image)
-    return 0, write_records([broadcast(ECHO, 0)], out)
+    return 0, write_records([broadcast(ECHO, 0)], out), 0
 
 
 def deliver(image, port, frame, out):
@@ -187,10 +189,10 @@ def deliver(image, port, frame, out):
         refuse_if(port not in evidence, 9)
         kind, flag, tick = read_frame(frame)
     except Refused as why:
-        return why.args[0], 0
-    node, records = step(node, evidence, port, kind, flag, tick)
+        return why.args[0], 0, 0
+    node, records, fired = step(node, evidence, port, kind, flag, tick)
     write_image(node, evidence, image)
-    return 0, write_records(records, out)
+    return 0, write_records(records, out), fired
 
 
 def read(image):
@@ -222,7 +224,7 @@ def listing(log):
     image, out = bytearray(HEADER + ROW * 32), bytearray(ROOM)
     lines = []
     for i in range(len(events) + 1):
-        given, records = boot(form, image, out) if i == 0 else deliver(image, number(events[i - 1][:4]), events[i - 1][4:], out)
+        given, records, _ = boot(form, image, out) if i == 0 else deliver(image, number(events[i - 1][:4]), events[i - 1][4:], out)
         lines.append(f"{i} {given} {records} {number(image[8:12])} {'pa'[image[2]]}\n")
         if i == 0 and given != 0:
             break

@@ -59,14 +59,14 @@ def call(kind, data, size, room, port, shown):
     the two may change; else the shown bytes of the image, and the records."""
     old, out = bytes(image), blank(200)
     part, front = image[:size], out[:room]
-    number, records = node.boot(data, part, front) if kind == BOOT else node.deliver(part, port, data, front)
+    number, records, fired = node.boot(data, part, front) if kind == BOOT else node.deliver(part, port, data, front)
     image[:size], out[:room] = part, front
     written = 12 * records if any(shown) else 0
     step(kind, data, size, room, shown, written, port)
     first, start, end = shown
     parts = [out[: 12 * records]] + [part for part in (image[:first], image[start:end]) if part]
     kept = image[first:start] == old[first:start] and image[end:] == old[end:] and out[written:] == blank(200 - written)
-    line = f" {number} {records}" + "".join(f" |{words(part)}" for part in parts) + (" | same\n" if kept else " | changed\n")
+    line = f" {number} {records} {fired}" + "".join(f" |{words(part)}" for part in parts) + (" | same\n" if kept else " | changed\n")
     stdout.extend(line.encode())
 
 
@@ -309,6 +309,15 @@ def zero():
     deliver("init-7-22", 1, 22, INIT, 7)
     deliver("init-7-33", 2, 33, INIT, 7)
     read("init-7-33")
+    # a wake without a record counts as a firing, too; in the end echo 0 brings four firings and, its answer included, five records,
+    # the most of one delivery unless n = 1
+    hand_in(fresh)
+    for tick in (1, 2):
+        deliver(f"four-init-{tick}-22", 1, 22, INIT, tick)
+        deliver(f"four-init-{tick}-33", 2, 33, INIT, tick)
+    for row, port, tick in ((3, 44, 3), (0, 11, 1), (1, 22, 1), (2, 33, 0)):
+        deliver(f"four-echo-{tick}-{port}", row, port, ECHO, tick)
+    read("four")
 
 
 def answers(w9):
@@ -366,12 +375,17 @@ def small():
         if tick != 1:
             read(f"one-init-{tick + 1}")
     show_image("one", 60)
-    # seven records, the most that one delivery can bring
+    # seven firings and seven records, the most that one delivery can bring: woken without a record, and with one
     hand_in(fresh)
     for name, kind, tick in (("init", INIT, 1), ("init", INIT, 5), ("echo", ECHO, 1), ("echo", ECHO, 4)):
         deliver(f"most-{name}-{tick}", 0, 7, kind, tick)
     read("most")
     show_image("most", 60)
+    hand_in(fresh)
+    frames = (("echo", ECHO, 0), ("init", INIT, 4), ("echo", ECHO, 3), ("echo", ECHO, 4), ("init", INIT, 8), ("echo", ECHO, 7))
+    for name, kind, tick in frames:
+        deliver(f"seven-{name}-{tick}", 0, 7, kind, tick)
+    read("seven")
 
 
 def large():

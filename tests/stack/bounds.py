@@ -29,6 +29,7 @@ RELOCATION = re.compile(r'\s*[0-9a-f]+:?\s+R_\S+\s+(.+?)([-+]0x[0-9a-f]+)?$')
 TABLE = re.compile(r'RELOCATION RECORDS FOR \[(.+)\]:$')
 ENTRY = re.compile(r'([0-9a-f]+) (R_\S+) +(.+?)(?:\+0x([0-9a-f]+))?$')
 
+REGISTER = r'%r(?:[a-d]x|[sd]i|bp|8|9|1[0-5])'  # of 64 bits
 STACK_POINTER = re.compile(r'(?<!\()%rsp\b|%(?:esp|spl?)\b')
 MOVED = re.compile(r'(sub|add) \$0x([0-9a-f]+),%rsp')
 UNKNOWN = re.compile(r'(push|pop)([afw]| %(?!r)| %r\d+[bdw])|enter|leave|loop|xbegin|l(call|jmp|ret)|iret|ret\w')
@@ -129,11 +130,18 @@ def descent(name, instruction):
 
 
 def jumps_by_table(instructions, place):
-    """Whether a jump to an address goes by a table: an entry is read, and the table's start is added to it."""
-    if place < 2 or not (to := re.fullmatch(r'jmp \*(%r\w+)', instructions[place].text)):
+    """Whether a jump to an address goes by a table: an entry is read, and the table's start is added to it. Moves between other registers
+    may stand behind that; no jump comes in between."""
+    if not (to := re.fullmatch(rf'jmp \*({REGISTER})', instructions[place].text)):
         return False
-    added = re.fullmatch(r'add (%r\w+),' + to[1], instructions[place - 1].text)
-    return bool(added and re.fullmatch(r'movslq \(' + added[1] + r',%r\w+,4\),' + to[1], instructions[place - 2].text))
+    add = place - 1
+    while add > 0 and (move := re.fullmatch(rf'mov {REGISTER},({REGISTER})', instructions[add].text)) and move[1] != to[1]:
+        add -= 1
+    if add < 1 or not (added := re.fullmatch(rf'add ({REGISTER}),{to[1]}', instructions[add].text)):
+        return False
+    jumps = {i.operands.split()[0] for i in instructions if i.operation.startswith('j')}
+    entered = any(f'{i.address:x}' in jumps for i in instructions[add : place + 1])
+    return bool(re.fullmatch(rf'movslq \({added[1]},{REGISTER},4\),{to[1]}', instructions[add - 1].text)) and not entered
 
 
 class Way:

@@ -13,6 +13,7 @@ FUNCTION(pebrassola_case)
     lea .Ltable(%rip), %rcx
     movslq (%rcx, %rax, 4), %rax
     add %rcx, %rax
+    mov %rdi, %r12
     jmp *%rax
 .Lby_table:
     add $64, %rsp
@@ -61,6 +62,30 @@ LOCAL(other)
     lea .Ltable(%rip), %rcx
     add %rdi, %rsi
     jmp *%rsi
+.Lby_table:
+    ret
+    .section .rodata.pebrassola_case, "a", @progbits
+.Ltable:
+    .long .Lby_table - .Ltable
+#elif defined JUMP_BY_POINTER_BEHIND_A_TABLE
+    lea .Ltable(%rip), %rcx
+    movslq (%rcx, %rax, 4), %rax
+    add %rcx, %rax
+    mov %rsi, %rax
+    jmp *%rax
+.Lby_table:
+    ret
+    .section .rodata.pebrassola_case, "a", @progbits
+.Ltable:
+    .long .Lby_table - .Ltable
+#elif defined JUMP_PAST_A_TABLE
+    test %rdi, %rdi
+    je .Lpast
+    lea .Ltable(%rip), %rcx
+    movslq (%rcx, %rax, 4), %rax
+    add %rcx, %rax
+.Lpast:
+    jmp *%rax
 .Lby_table:
     ret
     .section .rodata.pebrassola_case, "a", @progbits

@@ -38,14 +38,14 @@ static struct pebrassola_answer note_boot(const uint8_t *form, size_t form_lengt
                                           size_t out_length)
 {
     NOTE_CALLER();
-    return (struct pebrassola_answer){0, 0};
+    return (struct pebrassola_answer){0, 0, 0};
 }
 
 static struct pebrassola_answer note_deliver(uint8_t *image, size_t image_length, uint32_t port, const uint8_t *frame, size_t frame_length,
                                              uint8_t *out, size_t out_length)
 {
     NOTE_CALLER();
-    return (struct pebrassola_answer){0, 0};
+    return (struct pebrassola_answer){0, 0, 0};
 }
 
 static struct pebrassola_reading note_read(const uint8_t *image, size_t image_length)

@@ -9,14 +9,14 @@ struct pebrassola_answer pebrassola_boot(const uint8_t *form, size_t form_length
                                          size_t out_length)
 {
     struct model_result r = model_boot(form, form_length, image, image_length, out, out_length);
-    return (struct pebrassola_answer){r.number, r.value};
+    return (struct pebrassola_answer){r.number, r.value, r.fired};
 }
 
 struct pebrassola_answer pebrassola_deliver(uint8_t *image, size_t image_length, uint32_t port, const uint8_t *frame, size_t frame_length,
                                             uint8_t *out, size_t out_length)
 {
     struct model_result r = model_deliver(image, image_length, port, frame, frame_length, out, out_length);
-    return (struct pebrassola_answer){r.number, r.value};
+    return (struct pebrassola_answer){r.number, r.value, r.fired};
 }
 
 struct pebrassola_reading pebrassola_read(const uint8_t *image, size_t image_length)

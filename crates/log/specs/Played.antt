@@ -18,14 +18,14 @@ abbrev pub playedBy : Played → List ℕ → WriteTold
 playedBy (Listed size) out = doneWrite size out
 playedBy NoRoom out = refusedWrite 7 out
 
--- a call with the image and the output that it left
-abbrev pub outcomeOf : Call → List ℕ → List ℕ → Outcome
-outcomeOf call image out = record { number = call .number; records = call .records; image = image; out = out }
-
--- a call that is shown: the call of event number e has outcome o, and its line is laid over the listing from place i on
+-- a call that is shown: the call of event number e has outcome o, of which the listing has no use for the firings, and its line is laid
+-- over the listing from place i on
 pub record CallShown (e : ℕ) (o : Outcome) (out : List ℕ) (i : ℕ) (call : Call) (image sent after : List ℕ) : Type 0 where
   pub event : call .event ≡ e
-  pub outcome : outcomeOf call image sent ≡ o
+  pub number : call .number ≡ o .number
+  pub records : call .records ≡ o .records
+  pub image-left : image ≡ o .image
+  pub out-left : sent ≡ o .out
   pub line : Puts out i (lineOf e o) lineRoom after (call .next)
 
 -- ---- what is asked

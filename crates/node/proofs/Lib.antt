@@ -1,5 +1,6 @@
 -- The laws and theorems of `node` that belong to no single function. A reader starts at `Theorems`.
 pub mod Conditions
+pub mod Fired
 pub mod Fresh
 pub mod Heard
 pub mod Images

@@ -88,6 +88,7 @@ module _ (L : Layout) (last : ℕ) (a b : List ℕ) where
       record {
         number = r .number;
         records = 0;
+        fired = 0;
         given = r .clock;
         out = [];
         clock = v .0 d .tick;
@@ -100,6 +101,7 @@ module _ (L : Layout) (last : ℕ) (a b : List ℕ) where
 record Met (L : Layout) (last : ℕ) (o q : Outcome) : Type 0 where
   number : o .number ≡ q .number
   records : o .records ≡ q .records
+  fired : o .fired ≡ q .fired
   out : o .out ≡ q .out
   image : Alike L last (o .image) (q .image)
 
@@ -112,6 +114,7 @@ module _ (L : Layout) (last : ℕ) where
       record {
         number = m .number d;
         records = m .records d;
+        fired = m .fired d;
         given = 0;
         out = m .out d;
         clock = v .0 d .tick;
@@ -130,23 +133,23 @@ module _ (L : Layout) (last : ℕ) where
     where
       go : Dec (number ≡ 0) → Met L last (outcome number a out done) (outcome number b out ready)
       go (yes e) = rw (eq-eqb number 0 e) (both e)
-      go (no n) = rw (ne-eqb number 0 n) (record { number = refl; records = refl; out = refl; image = alike })
+      go (no n) = rw (ne-eqb number 0 n) (record { number = refl; records = refl; fired = refl; out = refl; image = alike })
 
 -- ---- one call
 
--- the deliveries of matched states match, and send the same records
+-- the deliveries of matched states match, send the same records, and fire as many rules
 deliveries :
     (w last : ℕ) (s t : State) (port : ℕ) (frame : Frame)
     → Matched s t
     → let x = delivered w last s port frame in
     let y = delivered w last t port frame in
-    Matched (x .state) (y .state) × (x .records ≡ y .records)
+    Matched (x .state) (y .state) × (x .records ≡ y .records) × (x .firings ≡ y .firings)
 deliveries w last s t port frame m =
     let x = delivered w last s port frame in
     let o = delivery-order w last (s .node) port frame (m .rows) in
-    subst (λ (y : Delivered). Matched (x .state) (y .state) × (x .records ≡ y .records))
+    subst (λ (y : Delivered). Matched (x .state) (y .state) × (x .records ≡ y .records) × (x .firings ≡ y .firings))
     (ap (λ (p : Node). delivered w last (record { node = p; rows = t .rows }) port frame) (m .node))
-    (record { node = o .0; rows = o .2 }, o .1)
+    (record { node = o .0; rows = o .3 }, o .1, o .2)
 
 module _ (L : Layout) (last : ℕ) (works : Works L) (small : last < tickCount) where
   deliver-met :
@@ -163,6 +166,7 @@ module _ (L : Layout) (last : ℕ) (works : Works L) (small : last < tickCount) 
       record {
         number = refl;
         records = ap (λ (l : List Outgoing). length l) (m .1);
+        fired = m .2;
         out = ap (putRecords out 0) (m .1);
         image = paired (record {
           first = x .sound;
@@ -227,6 +231,7 @@ module _ (b c : List ℕ) (r : Reordered b c) where
       record {
         number = refl;
         records = refl;
+        fired = refl;
         out = refl;
         image = paired (record {
           first = x .sound;

@@ -38,18 +38,23 @@ module _ (w last : ℕ) {rows others : List Row} (order : List·Permᴰ rows oth
       (λ c p e ih.
       rw (settle-fires w last others c p (rw (rule-order p) at e), ← rule-order p) (ap (follows p (firstRule w last rows p)) ih))
 
--- what a delivery leaves and sends: the same node and records, and rows in the same order as before
+-- what a delivery leaves and sends: the same node, records and firings, and rows in the same order as before
 pub delivery-order :
     (w last : ℕ) (p : Node) {rows others : List Row} (port : ℕ) (frame : Frame)
     → List·Permᴰ rows others
     → let one = delivered w last (record { node = p; rows = rows }) port frame in
     let other = delivered w last (record { node = p; rows = others }) port frame in
-    (one .state .node ≡ other .state .node) × (one .records ≡ other .records) × List·Permᴰ (one .state .rows) (other .state .rows)
+    (one .state .node ≡ other .state .node) × (one .records ≡ other .records) × (one .firings ≡ other .firings)
+    × List·Permᴰ (one .state .rows) (other .state .rows)
 unfolding delivered settled
 delivery-order w last p port frame order =
     let after = credit-order w port (frame .kind) (frame .tick) order in
-    let s = settle-order w last after mostFirings p in
-    (ap (λ (x : Settled). x .node) s, ap (λ (x : Settled). answer p port frame ++ x .records) s, after)
+    let s = settle-order w last after mostFirings p in (
+      ap (λ (x : Settled). x .node) s,
+      ap (λ (x : Settled). answer p port frame ++ x .records) s,
+      ap (λ (x : Settled). x .firings) s,
+      after,
+    )
 
 -- ---- evidence under a serial
 

@@ -18,18 +18,19 @@ use Rattle.fields.proofs.Fields.{field-lt}
 use Rattle.fields.proofs.Words.{Words, length-words, words-words}
 use Rattle.sets.specs.Sets.{tickCount, maskBits}
 use Rattle.sets.specs.Ticks.{empty}
-use Rattle.evidence.proofs.Layouts.{length-rows}
+use Rattle.evidence.proofs.Layouts.{length-rows, serials-of-rows}
 use Rattle.evidence.proofs.Encoded.{SetFits, RowsFit, rows-fit, credit-fits, length-credit}
 use Rattle.node.specs.After.{Begins, Follows}
 use Rattle.node.specs.Calls.{bootNumber, freshState, deliverNumber, deliveryOf, imageAfter}
-use Rattle.rules.specs.Delivery.{State, Delivered, delivered}
-use Rattle.rules.specs.Describe.{freshRows}
+use Rattle.rules.specs.Delivery.{State, Delivered, settled, delivered}
+use Rattle.rules.specs.Describe.{mostFirings, firingsAlone, firingsTogether, recordsAlone, recordsTogether, freshRows}
+use Rattle.rules.specs.Rules.{settle}
 use Rattle.node.specs.Image.{Layout, layout, headerSize, nodeOf, rowsOf, stateOf, soundImage, putState}
 use Rattle.rules.specs.Clock.{Ordered, Below}
 use Rattle.node.proofs.Fresh.{fresh-lines, fresh-sound}
 use Rattle.node.proofs.Images.{Fine, NodeFits, StateFits, Written, fixed-facts, fixed-test, state-read-back, delivery-read-back}
 use Rattle.node.proofs.Sound.{Sound, SoundBytes, sound-bytes, bytes-sound, rows-inside}
-use Rattle.node.proofs.Stays.{sound-after, ordered-after, rest-after, records-few, records-below}
+use Rattle.node.proofs.Stays.{sound-after, ordered-after, firings-few, firings-all, records-few, records-below}
 use Rattle.node.proofs.Taken.{Started, boot-taken, Taken, deliver-taken, frame-whole}
 
 -- a layout that works: its numbers fit, and its window fits a mask of its bytes
@@ -137,14 +138,23 @@ module _
       let sound = sound-after (L .window) last start port told (works .wide) count (before .node) late in
       record { sound = written-sound L last image (d .state) _ sound fits wrote; state = wrote .state; size = wrote .size }
 
-  -- it comes to rest soon
-  pub delivery-firings : d .firings ≤ 13
+  -- few rules fire, as many as with any greater counter, and few records are sent
+  pub delivery-firings : (d .firings ≤ firingsAlone) × (2 ≤ start .node .lines → d .firings ≤ firingsTogether)
   unfolding deliveryOf
-  delivery-firings = rest-after (L .window) last start port told (works .wide) count (before .node) .1
+  delivery-firings = firings-few (L .window) last start port told (works .wide) count (before .node)
 
-  pub delivery-records : length (d .records) ≤ 14
-  unfolding deliveryOf
-  delivery-records = records-few (L .window) last start port told (works .wide) count (before .node)
+  pub delivery-all :
+      (c : ℕ)
+      → mostFirings ≤ c
+      → settle (L .window) last (d .state .rows) c (start .node) ≡ settled (L .window) last start port told
+  unfolding deliveryOf delivered
+  delivery-all = firings-all (L .window) last start port told (works .wide) count (before .node)
+
+  pub delivery-records : (length (d .records) ≤ recordsAlone) × (2 ≤ start .node .lines → length (d .records) ≤ recordsTogether)
+  unfolding deliveryOf stateOf nodeOf
+  delivery-records =
+      records-few (L .window) last start port told (works .wide) count (before .node)
+      (rw (← serials-of-rows (L .masks) (getD image 0 0) image headerSize) at (taken .listed))
 
   -- and says no tick above its clock
   pub delivery-below : Below (d .state .node .tick) (d .records)

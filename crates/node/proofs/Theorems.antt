@@ -26,9 +26,9 @@ use Rattle.rules.specs.Clock.{Ordered, Below}
 use Rattle.rules.specs.Delivery.{Delivered, otherThan, answer, settled, delivered}
 use Rattle.sets.specs.History.{Sent, heard}
 use Rattle.sets.specs.Ticks.{Held}
-use Rattle.rules.specs.Describe.{window, lastTick}
+use Rattle.rules.specs.Describe.{window, lastTick, mostFirings, room}
 use Rattle.rules.specs.Record.{Outgoing, Every, broadcast, answerTo, recordSize, putRecords}
-use Rattle.rules.specs.Rules.{firstRule}
+use Rattle.rules.specs.Rules.{firstRule, settle}
 use Rattle.rules.specs.Which.{Fires}
 use Rattle.rules.specs.declared.node.Node.{Node}
 use Rattle.rules.specs.declared.node.Rule.{Rule}
@@ -50,6 +50,7 @@ use Rattle.node.specs.declared.calls.Answer.{Answer}
 use Rattle.node.specs.declared.calls.Reading.{Reading}
 use Rattle.node.proofs.Images.{state-again}
 use Rattle.node.proofs.Conditions.{sound-says}
+use Rattle.node.proofs.Fired.{records-for-firings, few-alone, few-together}
 use Rattle.node.proofs.Heard.{held-is-heard, held-same}
 use Rattle.node.proofs.Kept.{boot-lengths, boot-behind-image, boot-behind-records}
 use Rattle.node.proofs.Kept.{deliver-lengths, deliver-behind-image, deliver-behind-records, deliver-only}
@@ -59,7 +60,7 @@ use Rattle.node.proofs.Numbers.{boot-says, deliver-says, read-says}
 use Rattle.node.proofs.Outcomes.{boot-told, boot-done, boot-refused, deliver-told, deliver-done, deliver-refused}
 use Rattle.node.proofs.Outcomes.{read-done, read-refused}
 use Rattle.node.proofs.SoundImages.{in-service, boot-sound}
-use Rattle.node.proofs.SoundImages.{delivery-sound, delivery-ordered, delivery-firings, delivery-records, delivery-below}
+use Rattle.node.proofs.SoundImages.{delivery-sound, delivery-ordered, delivery-all, delivery-below}
 use Rattle.node.proofs.Traffic.{delivery-back, flag-of-the-answer, sends-known, same-image, same-others}
 use Rattle.node.proofs.Traffic.{asks-fewer, calls-modest, life-sent, bytes-booted}
 
@@ -168,21 +169,6 @@ module _ (image : List ℕ) (port : ℕ) (frame out : List ℕ) where
   pub deliver-behind-the-records : (i : ℕ) → recordSize * delivers .records ≤ i → getD (delivers .out) i 0 ≡ getD out i 0
   deliver-behind-the-records = deliver-behind-records layout lastTick image port frame out
 
-  -- The step comes to rest within 13 firings, and sends at most 14 records of the 16 that fit
-  pub few-firings :
-      Bytes image
-      → delivers .number ≡ 0
-      → step .firings ≤ 13
-  few-firings bytes ok = delivery-firings layout lastTick in-service (lit< tt) image port frame (length out) bytes (given ok)
-
-  pub few-records :
-      Bytes image
-      → delivers .number ≡ 0
-      → delivers .records ≤ 14
-  few-records bytes ok =
-      subst (λ (n : ℕ). n ≤ 14) (sym (deliver-sends ok .0))
-      (delivery-records layout lastTick in-service (lit< tt) image port frame (length out) bytes (given ok))
-
   -- 003's own words: k never falls, active stays active, the last echo is at most k, and k at most the last tick
   pub in-order :
       Bytes image
@@ -202,6 +188,53 @@ module _ (image : List ℕ) (port : ℕ) (frame out : List ℕ) where
   none-ahead bytes ok =
       subst (λ (p : Node). Below (p .tick) (step .records)) (sym (ap (λ s. s .node) (deliver-is-the-step bytes ok .state)))
       (delivery-below layout lastTick in-service (lit< tt) image port frame (length out) bytes (given ok))
+
+  -- ---- How many rules fire (02, A6)
+
+  -- The figure is the number of firings of the step
+  pub fired-is-counted :
+      delivers .number ≡ 0
+      → delivers .fired ≡ step .firings
+  fired-is-counted ok = ap (λ (o : Outcome). o .fired) (done ok)
+
+  -- The rules fire until none can: with more than 15 firings allowed the step would be the same
+  pub fired-until-none :
+      Bytes image
+      → delivers .number ≡ 0
+      → (allowed : ℕ)
+      → mostFirings ≤ allowed
+      → settle window lastTick (step .state .rows) allowed (nodeOf image)
+      ≡ settled window lastTick (stateOf layout image) port (frameAt frame 0)
+  unfolding stateOf
+  fired-until-none bytes ok = delivery-all layout lastTick in-service (lit< tt) image port frame (length out) bytes (given ok)
+
+  -- At most 15 fire, whatever is handed in
+  pub fired-as-allowed :
+      Bytes image
+      → delivers .fired ≤ mostFirings
+  fired-as-allowed bytes = omega (arith, few-alone layout lastTick image port frame out in-service (lit< tt) bytes)
+
+  -- and so 192 bytes never run out: each sends one record at most, and one more may be the answer
+  pub records-for-the-fired : delivers .records ≤ delivers .fired + 1
+  records-for-the-fired = records-for-firings layout lastTick image port frame out
+
+  pub room-never-runs-out :
+      Bytes image
+      → recordSize * delivers .records ≤ room
+  room-never-runs-out bytes = omega (arith, records-for-the-fired, fired-as-allowed bytes)
+
+  -- The true maximum: at most 7 fire, and at most 7 records are sent. Worked.antt has a run that attains both
+  pub fired-at-most :
+      Bytes image
+      → (delivers .fired ≤ 7) × (delivers .records ≤ 7)
+  fired-at-most = few-alone layout lastTick image port frame out in-service (lit< tt)
+
+  -- With two controllers and more at most 4 fire, and at most 5 records are sent, an answer among them; attained there too
+  pub fired-at-most-together :
+      Bytes image
+      → 2 ≤ nodeOf image .lines
+      → (delivers .fired ≤ 4) × (delivers .records ≤ 5)
+  fired-at-most-together = few-together layout lastTick image port frame out in-service (lit< tt)
 
   -- ---- Who is answered (02, A2)
 
@@ -445,8 +478,11 @@ pub one-outcome :
     → outcomeBy b image′ out′ ≡ wanted
     → (a ≡ b) × (image ≡ image′) × (out ≡ out′)
 one-outcome wanted a b image image′ out out′ p q =
-    let e = p ∙ sym q in
-    (λ d. record { number = e d .number; records = e d .records }, ap (λ (o : Outcome). o .image) e, ap (λ (o : Outcome). o .out) e)
+    let e = p ∙ sym q in (
+      λ d. record { number = e d .number; records = e d .records; fired = e d .fired },
+      ap (λ (o : Outcome). o .image) e,
+      ap (λ (o : Outcome). o .out) e,
+    )
 
 pub one-reading :
     (wanted : Told) (a b : Reading)

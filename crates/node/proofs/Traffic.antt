@@ -93,7 +93,7 @@ module _
   pub delivery-back : recordsAt (length (d .records)) (putRecords out 0 (d .records)) 0 ≡ d .records
   delivery-back =
       records-back out 0 (d .records) records-fit
-      (omega (arith, taken .space, delivery-records L last works small image port frame (length out) bytes ok))
+      (omega (arith, taken .space, delivery-records L last works small image port frame (length out) bytes ok .0))
 
   -- each record that carries the flag is the answer, and the answer carries it
   pub flag-of-the-answer : Every (λ r. (r .frame .flag ≡ ANSWER) ↔ TheAnswer (nodeOf image) port (frameAt frame 0) r) (d .records)

@@ -1,6 +1,7 @@
--- 01's settled examples W1 to W10, about the definitions of the calls, with the flag of 02's A2: the answers of W3 and W4 carry it. One
--- table, one claim. A form is booted and frames are delivered one after the other, all as bytes, and each line says the number given
--- back, the bytes of the records sent, k and mode; the last two say what 22 holds after echo 69, and after echo 70 instead.
+-- 01's settled examples W1 to W10, about the definitions of the calls, with the flag of 02's A2 (the answers of W3 and W4 carry it) and
+-- the firings of A6; and two runs whose last delivery fires as many rules and sends as many records as one can. One table, one claim.
+-- A form is booted and frames are delivered one after the other, all as bytes. A line of W1 to W9 says the number given back, how many
+-- rules fired, the bytes of the records sent, k and mode; W10 what 22 holds after echo 69, and after echo 70 instead.
 -- Assumes nothing.
 use mathlib.Core.Path.{_≡_, refl}
 use mathlib.Core.List.{List, [], _∷_}
@@ -8,7 +9,7 @@ use Prim.Native.Nat.{ℕ, zero, suc, _*_}
 use lib.ListN.{take, replicate}
 use Rattle.fields.specs.Kind.{INIT, ECHO}
 use Rattle.fields.specs.Field.{field, putField, words}
-use Rattle.forms.specs.Form.{formNumber}
+use Rattle.forms.specs.Form.{linesOf, formNumber}
 use Rattle.forms.specs.Frame.{BROADCAST, ANSWER, frameNumber, putFrame}
 use Rattle.forms.specs.Column.{count, twins}
 use Rattle.forms.specs.Roster.{rosterNumber}
@@ -31,8 +32,12 @@ abbrev word : ℕ → List ℕ → List ℕ
 word low more = 0 ∷ 0 ∷ 0 ∷ low ∷ more
 
 -- n = 4, f = 1, offset 8, own serial 11, and the serials 11, 22, 33, 44
-abbrev form : List ℕ
-form = 4 ∷ 1 ∷ 0 ∷ 8 ∷ word 11 (word 11 (word 22 (word 33 (word 44 []))))
+abbrev four : List ℕ
+four = 4 ∷ 1 ∷ 0 ∷ 8 ∷ word 11 (word 11 (word 22 (word 33 (word 44 []))))
+
+-- n = 1, f = 0, and the serial 11 alone
+abbrev one : List ℕ
+one = 1 ∷ 0 ∷ 0 ∷ 8 ∷ word 11 (word 11 [])
 
 abbrev frame : ℕ → ℕ → ℕ → List ℕ → List ℕ
 frame kind flag tick more = kind ∷ flag ∷ 0 ∷ 0 ∷ word tick more
@@ -59,24 +64,38 @@ init port tick = record { port = port; frame = frame INIT BROADCAST tick [] }
 -- what a line of the table says
 record Line : Type 0 where
   number : ℕ
+  fired : ℕ
   sent : List ℕ
   k : ℕ
   mode : ℕ
 
-abbrev line : List ℕ → ℕ → ℕ → Line
-line sent k mode = record { number = 0; sent = sent; k = k; mode = mode }
+abbrev line : ℕ → List ℕ → ℕ → ℕ → Line
+line fired sent k mode = record { number = 0; fired = fired; sent = sent; k = k; mode = mode }
 
 abbrev lineOf : Outcome → Line
 lineOf o =
     record {
       number = o .number;
+      fired = o .fired;
       sent = take (recordSize * o .records) (o .out);
       k = nodeOf (o .image) .tick;
       mode = nodeOf (o .image) .mode;
     }
 
-abbrev boots : Outcome
-boots = booted layout form (replicate (imageSize layout 4) 0) (replicate room 0)
+-- what a call reports, in short
+record Figures : Type 0 where
+  number : ℕ
+  fired : ℕ
+  records : ℕ
+
+abbrev figures : ℕ → ℕ → Figures
+figures fired records = record { number = 0; fired = fired; records = records }
+
+abbrev figuresOf : Outcome → Figures
+figuresOf o = record { number = o .number; fired = o .fired; records = o .records }
+
+abbrev boots : List ℕ → Outcome
+boots form = booted layout form (replicate (imageSize layout (linesOf form)) 0) (replicate room 0)
 
 abbrev deliver : List ℕ → Event → Outcome
 deliver image e = deliverOutcome layout lastTick image (e .port) (e .frame) (replicate room 0)
@@ -100,53 +119,100 @@ ticksBelow (suc n) s = elim (holds window s n) [ zero ↦ ticksBelow n s | suc k
 abbrev heldFrom : ℕ → Outcome → List ℕ
 heldFrom serial o = ticksBelow 80 (heldUnder (rowsOf layout (o .image)) serial ECHO)
 
--- a line for each call, and what 22 holds after one more
-record Table : Type 0 where
-  lines : List Line
+-- what is said of each call, one after the other, and of the image that is left
+record Play (A B : Type 0) : Type 0 where
+  calls : List A
+  left : B
+
+play : {A B : Type 0} → (Outcome → A) → (List ℕ → B) → List Event → Outcome → Play A B
+play says ends [] o = record { calls = says o ∷ []; left = onwards (o .image) [] ends }
+play says ends (e ∷ es) o =
+    let rest = onwards (o .image) [] (λ image. play says ends es (deliver image e)) in
+    record { calls = says o ∷ rest .calls; left = rest .left }
+
+-- what 22 holds after one delivery more
+record Held22 : Type 0 where
   with-69 : List ℕ
   with-70 : List ℕ
 
-abbrev behind : Outcome → Table → Table
-behind o t = record { lines = lineOf o ∷ t .lines; with-69 = t .with-69; with-70 = t .with-70 }
-
-play : List Event → Outcome → Table
-play [] o =
-    onwards (o .image) []
-    (λ image.
-    record {
-      lines = lineOf o ∷ [];
-      with-69 = heldFrom 22 (deliver image (echo 22 69));
-      with-70 = heldFrom 22 (deliver image (echo 22 70));
-    })
-play (e ∷ es) o = behind o (onwards (o .image) [] (λ image. play es (deliver image e)))
+abbrev held22 : List ℕ → Held22
+held22 image =
+    record { with-69 = heldFrom 22 (deliver image (echo 22 69)); with-70 = heldFrom 22 (deliver image (echo 22 70)) }
 
 -- W2 to W9
 abbrev story : List Event
 story = echo 11 0 ∷ echo 22 0 ∷ echo 33 0 ∷ init 11 1 ∷ init 22 1 ∷ echo 44 1 ∷ echo 33 5 ∷ echo 22 6 ∷ echo 44 4 ∷ []
 
+-- the firings and records of a run from boot on
+abbrev figuresOver : List ℕ → List Event → List Figures
+figuresOver form events = play figuresOf (λ image. tt {0}) events (boots form) .calls
+
+-- a node alone: the last echo gives it the ticks 5, 6 and 7, and it holds init 8
+abbrev mostAlone : List Event
+mostAlone = echo 11 0 ∷ init 11 4 ∷ echo 11 3 ∷ echo 11 4 ∷ init 11 8 ∷ echo 11 7 ∷ []
+
+-- one of four: it is woken at 0, holds init 2 from two and echo 1 from three; the last echo 0 asks, and gives it tick 0 from three
+abbrev mostTogether : List Event
+mostTogether =
+    init 22 1 ∷ init 33 1 ∷ init 22 2 ∷ init 33 2 ∷ echo 44 3 ∷ echo 11 1 ∷ echo 22 1 ∷ echo 33 0 ∷ []
+
+record Examples : Type 0 where
+  settled : Play Line Held22
+  alone : List Figures
+  together : List Figures
+
 settled-examples :
-    play story boots
-    ≡ record {
-      lines =
-          -- W1 to W4
-          line (all ECHO 0 []) 0 0
-          ∷ line [] 0 0
-          ∷ line (answers 22 0 []) 0 0
-          ∷ line (answers 33 0 (all INIT 1 [])) 1 0
-          -- W5, W6
-          ∷ line [] 1 0
-          ∷ line (all ECHO 1 []) 1 1
-          -- W7, two deliveries
-          ∷ line [] 1 1
-          ∷ line [] 1 1
-          -- W8, W9
-          ∷ line (all ECHO 4 []) 4 1
-          ∷ line (all INIT 5 (all ECHO 5 [])) 5 1
+    _≡_ {A = Examples}
+    (record {
+      settled = play lineOf held22 story (boots four);
+      alone = figuresOver one mostAlone;
+      together = figuresOver four mostTogether;
+    })
+    (record {
+      settled =
+          record {
+            calls =
+                -- W1 to W4
+                line 0 (all ECHO 0 []) 0 0
+                ∷ line 0 [] 0 0
+                ∷ line 0 (answers 22 0 []) 0 0
+                ∷ line 1 (answers 33 0 (all INIT 1 [])) 1 0
+                -- W5, W6: R1, and R5 without a record
+                ∷ line 0 [] 1 0
+                ∷ line 2 (all ECHO 1 []) 1 1
+                -- W7, two deliveries
+                ∷ line 0 [] 1 1
+                ∷ line 0 [] 1 1
+                -- W8, W9
+                ∷ line 1 (all ECHO 4 []) 4 1
+                ∷ line 2 (all INIT 5 (all ECHO 5 [])) 5 1
+                ∷ [];
+            -- W10
+            left = record { with-69 = 69 ∷ 68 ∷ 67 ∷ 6 ∷ []; with-70 = 70 ∷ 69 ∷ 68 ∷ [] };
+          };
+      -- A6: 7 firings and 7 records
+      alone =
+          figures 0 1
+          ∷ figures 1 1
+          ∷ figures 1 1
+          ∷ figures 2 2
+          ∷ figures 1 1
+          ∷ figures 0 0
+          ∷ figures 7 7
           ∷ [];
-      -- W10
-      with-69 = 69 ∷ 68 ∷ 67 ∷ 6 ∷ [];
-      with-70 = 70 ∷ 69 ∷ 68 ∷ [];
-    }
+      -- A6: 4 firings and 5 records; the second init wakes the node, without a record
+      together =
+          figures 0 1
+          ∷ figures 0 0
+          ∷ figures 1 0
+          ∷ figures 0 0
+          ∷ figures 0 0
+          ∷ figures 0 0
+          ∷ figures 0 0
+          ∷ figures 0 0
+          ∷ figures 4 5
+          ∷ [];
+    })
 unfolding turned onwards ticksBelow play booted bootNumber freshState deliverOutcome numberBeforeFrame deliverNumber deliveryOf imageAfter
     formNumber frameNumber rosterNumber count twins soundImage soundState fixedHeader stateOf nodeOf putState putNode putFixed putClock
     freshRows field putField words putFrame putRecord putRecords rowsAt rowAt setAt putRows putRow putSet properRows properSet

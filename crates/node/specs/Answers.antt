@@ -7,7 +7,8 @@ use Rattle.node.specs.declared.calls.Answer.{Answer}
 use Rattle.node.specs.declared.calls.Reading.{Reading}
 
 abbrev pub outcomeBy : Answer → List ℕ → List ℕ → Outcome
-outcomeBy answer image out = record { number = answer .number; records = answer .records; image = image; out = out }
+outcomeBy answer image out =
+    record { number = answer .number; records = answer .records; fired = answer .fired; image = image; out = out }
 
 abbrev pub readingBy : Reading → Told
 readingBy r = record { number = r .number; clock = r .clock }

@@ -1,5 +1,5 @@
 -- The three calls of truck firmware (01, "Numbers given back"): for every form, image, port, frame and output the number, the
--- records, and every byte of image and output at exit. A refusal reports nothing and changes no byte.
+-- records, how many rules fired (02, A6), and every byte of image and output at exit. A refusal reports nothing and changes no byte.
 use Prim.Native.Nat.{ℕ}
 use mathlib.Core.List.{List}
 use mathlib.Core.Bool.{cond}
@@ -16,16 +16,17 @@ use Rattle.rules.specs.Describe.{room, freshNode, freshRows, bootRecords}
 use Rattle.node.specs.Image.{Layout, headerSize, modePlace, tickPlace, imageSize, rosterIn, stateOf, putClock, putState, soundImage}
 use Rattle.rules.specs.Record.{putRecords}
 
--- number, count of records, and every byte of image and output at exit
+-- number, count of records, rules fired, and every byte of image and output at exit
 pub record Outcome : Type 0 where
   pub number : ℕ
   pub records : ℕ
+  pub fired : ℕ
   pub image : List ℕ
   pub out : List ℕ
 
--- a refusal: its number, no records, and no byte of image or output changed
+-- a refusal: its number, no records, no rule fired, and no byte of image or output changed
 abbrev pub refused : ℕ → List ℕ → List ℕ → Outcome
-refused number image out = record { number = number; records = 0; image = image; out = out }
+refused number image out = record { number = number; records = 0; fired = 0; image = image; out = out }
 
 -- the outcome that a number decides: of 0 what is done, of any other a refusal
 abbrev pub outcome : ℕ → List ℕ → List ℕ → Outcome → Outcome
@@ -41,10 +42,16 @@ bootNumber L form imageLength outLength =
 unfoldable pub freshState : List ℕ → State
 freshState form = record { node = freshNode (linesOf form) (faultsOf form) (ownOf form); rows = freshRows (serialsOf form) }
 
--- what it does then
+-- what it does then. No rule fires: a fresh node is at rest
 abbrev pub bootDone : Layout → List ℕ → List ℕ → List ℕ → Outcome
 bootDone L form image out =
-    record { number = 0; records = length bootRecords; image = putState L image (freshState form); out = putRecords out 0 bootRecords }
+    record {
+      number = 0;
+      records = length bootRecords;
+      fired = 0;
+      image = putState L image (freshState form);
+      out = putRecords out 0 bootRecords;
+    }
 
 unfoldable pub booted : Layout → List ℕ → List ℕ → List ℕ → Outcome
 booted L form image out =
@@ -73,7 +80,13 @@ imageAfter L image d = putClock (putRows (L .masks) image headerSize (d .state .
 abbrev pub deliverDone : Layout → ℕ → List ℕ → ℕ → List ℕ → List ℕ → Outcome
 deliverDone L last image port frame out =
     let d = deliveryOf L last image port frame in
-    record { number = 0; records = length (d .records); image = imageAfter L image d; out = putRecords out 0 (d .records) }
+    record {
+      number = 0;
+      records = length (d .records);
+      fired = d .firings;
+      image = imageAfter L image d;
+      out = putRecords out 0 (d .records);
+    }
 
 unfoldable pub deliverOutcome : Layout → ℕ → List ℕ → ℕ → List ℕ → List ℕ → Outcome
 deliverOutcome L last image port frame out =

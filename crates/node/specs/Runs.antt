@@ -1,5 +1,5 @@
 -- What a truck sees of a node over its life (demand 3): boot, then any deliveries and reads, refused ones included; and after each
--- call the number, the records and output bytes, the clock and mode, and the evidence under each serial.
+-- call the number, the records and output bytes, the rules fired, the clock and mode, and the evidence under each serial.
 use Prim.Native.Nat.{ℕ, _+_}
 use mathlib.Core.List.{List, [], _∷_}
 use mathlib.Core.Bool.{cond}
@@ -23,6 +23,7 @@ under w (row ∷ rows) serial kind t = cond (eqb (row .serial) serial) (holds w 
 pub record Seen : Type 0 where
   pub number : ℕ
   pub records : ℕ
+  pub fired : ℕ
   pub given : ℕ
   pub out : List ℕ
   pub clock : ℕ
@@ -34,6 +35,7 @@ seenBy L o =
     record {
       number = o .number;
       records = o .records;
+      fired = o .fired;
       given = 0;
       out = o .out;
       clock = nodeOf (o .image) .tick;
@@ -46,6 +48,7 @@ seenIn L r image =
     record {
       number = r .number;
       records = 0;
+      fired = 0;
       given = r .clock;
       out = [];
       clock = nodeOf image .tick;

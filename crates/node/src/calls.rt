@@ -25,11 +25,12 @@ ghost use Rattle.node.specs.Calls.{booted, numberBeforeFrame, deliverOut
 ghost use Rattle.rules.specs.Describe.{lastTick};
 ghost use Rattle.node.specs.Image.{layout};
 
-// The number of a call, and the records that stand in the output.
+// The number of a call, the records that stand in the output, and how many times a rule fired.
 #[repr(C)]
 pub struct Answer {
     pub number: u32,
     pub records: u32,
+    pub fired: u32,
 }
 
 // The number of a call, and the clock.
@@ -49,6 +50,7 @@ pub fn boot(form: &[u8], image: &mut [u8], out: &mut [u8]) -> Answer
         FormRead::Refused(why) => Answer {
             number: why.number(),
             records: 0,
+            fired: 0,
         },
         FormRead::Taken(roster) => {
             let n = roster.lines as usize;
@@ -56,12 +58,14 @@ pub fn boot(form: &[u8], image: &mut [u8], out: &mut [u8]) -> Answer
                 return Answer {
                     number: 6,
                     records: 0,
+                    fired: 0,
                 };
             }
             if out.len() < Node::ROOM {
                 return Answer {
                     number: 7,
                     records: 0,
+                    fired: 0,
                 };
             }
             put_node(image, Node::new(roster.lines, roster.faults, roster.own));
@@ -70,6 +74,7 @@ pub fn boot(form: &[u8], image: &mut [u8], out: &mut [u8]) -> Answer
             Answer {
                 number: 0,
                 records: 1,
+                fired: 0,
             }
         }
     }
@@ -100,12 +105,17 @@ pub fn deliver(image: &mut [u8], port: u32, frame: &[u8], out: &mut [u8]) -> Ans
     let room = out.len();
     let number = number_before_frame(image, port, room);
     if number != 0 {
-        return Answer { number, records: 0 };
+        return Answer {
+            number,
+            records: 0,
+            fired: 0,
+        };
     }
     match read_frame(frame, Node::LAST_TICK) {
         FrameRead::Refused(why) => Answer {
             number: why.number(),
             records: 0,
+            fired: 0,
         },
         FrameRead::Taken(taken) => {
             let node = read_node(image);
@@ -114,6 +124,7 @@ pub fn deliver(image: &mut [u8], port: u32, frame: &[u8], out: &mut [u8]) -> Ans
             Answer {
                 number: 0,
                 records: next.records as u32,
+                fired: next.fired as u32,
             }
         }
     }

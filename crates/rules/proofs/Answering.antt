@@ -65,6 +65,9 @@ module _ (p : Node) (port : ℕ) (frame : Frame) where
   pub answer-unasked : (Asks frame → ⊥) → answer p port frame ≡ []
   answer-unasked unasked = answered (λ l. l ≡ []) p port frame (λ a. absurd (unasked (a .asked))) refl
 
+  pub answer-own : port ≡ p .own → answer p port frame ≡ []
+  answer-own own = answered (λ l. l ≡ []) p port frame (λ a. absurd (a .other own)) refl
+
 -- ---- what a rule says
 
 said-broadcasts : (p : Node) (rule : Rule) → Every Broadcast (said p rule)

@@ -1,118 +1,33 @@
--- The counter of `settle` never decides: from a sound image one delivery comes to rest within 13 firings.
--- On a sound image no tick above k + 1 has f + 1 holders, and a frame gives holders to at most three ticks j, j - 1, j - 2. So R3 can
--- fire only at k, k + 1 or one of these three; R4 and R5 fire at most once; R1 or R2 at most once for each value of k. The
--- potential below falls with each firing.
+-- The counter of `settle` never decides: a delivery to a node at rest comes to rest within 7 firings, and within 4 where n ≥ 2.
+-- On rows at rest no tick above k + 1 has f + 1 holders, and a frame gives one holder more to at most three ticks j, j - 1, j - 2, of
+-- its own kind alone. So at k an echo may be sent, and then R3, R4 or R5 moves the clock on, once: after that no jump and no wake is
+-- left, and R3 and echoes take turns up to the first tick that n - f do not hold. That tick is near: k + 2 after R3 and l after R4
+-- where n ≥ 2, since f + 1 < n - f there, and one further for a node alone.
 -- Assumes nothing.
-use mathlib.Core.Path.{_≡_, refl, sym, subst}
-use mathlib.Core.Logic.{_⊎_, inl, inr}
-use mathlib.Core.Bool.{false, true≢false}
+use mathlib.Core.Path.{_≡_, refl, sym, ap, _∙_, subst}
+use mathlib.Core.Bool.{Bool, true, false, cond, _&&_, true≢false, false≢true, and-eq-true-iff}
 use mathlib.Core.List.{List}
-use Prim.Native.Nat.{ℕ, zero, suc, _+_, _-_, _*_, _≤_, _<_, min, max}
-use native.Mathlib.Decide.{decLe}
+use Prim.Native.Nat.{ℕ, suc, _+_, _-_, _*_, _≤_, _<_, max}
+use native.Mathlib.Decide.{decLe, ℕ-discrete}
 use native.Mathlib.Omega.{arith}
-use Rattle.fields.specs.Kind.{ECHO}
+use borrow.Author.Tests.{le-leb, lt-ltb}
+use lib.Dec.{eqb}
+use Rattle.fields.specs.Kind.{INIT, ECHO}
+use Rattle.forms.specs.Column.{count}
 use Rattle.forms.specs.declared.frame.Frame.{Frame}
 use Rattle.evidence.specs.Rows.{Row, credit}
 use Rattle.evidence.specs.Holders.{holders, greatest}
-use Rattle.evidence.proofs.Greatest.{greatest-held, greatest-most, greatest-none}
-use Rattle.evidence.proofs.Growth.{added-near, holders-less}
+use Rattle.evidence.specs.Serials.{serialsIn}
+use Rattle.evidence.proofs.Greatest.{greatest-held, greatest-most, greatest-none, none-few, few-none, none-higher}
+use Rattle.evidence.proofs.Growth.{added-near, holders-less, holders-more, holders-other}
 use Rattle.rules.specs.Delivery.{State, credited, settled, delivered}
-use Rattle.rules.specs.Describe.{mostFirings}
-use Rattle.rules.specs.Rules.{jumpTo, firstRule, atRest, fired, Settled, still, settle}
+use Rattle.rules.specs.Describe.{mostFirings, firingsAlone, firingsTogether}
+use Rattle.rules.specs.Rules.{jumpTo, wakeAt, firstRule, atRest, clocked, fired, settle}
 use Rattle.rules.specs.declared.node.Node.{Node}
 use Rattle.rules.specs.declared.node.Rule.{Rule}
 use Rattle.rules.specs.declared.node.Rule.the-variants.{Rest, Echo, Tick, Jump, Wake}
-use Rattle.rules.proofs.Firing.{Told, told, rest-or, fired-same, FiringStep, settle-induction}
-
--- ---- the potential
-
--- 1 for a number that is not 0
-one : ℕ → ℕ
-one x = min 1 x
-
-one-le : (x : ℕ) → one x ≤ 1
-unfolding one
-one-le x = omega arith
-
-one-none : (x : ℕ) → x ≡ 0 → one x ≡ 0
-unfolding one
-one-none x e = omega arith
-
-one-some : (x : ℕ) → 0 < x → one x ≡ 1
-unfolding one
-one-some x p = omega arith
-
--- how many of the five ticks k₀, k₀ + 1, j, j - 1, j - 2 are at least k: each counts 1 until k has passed it
-five : ℕ → ℕ → ℕ → ℕ
-five k₀ j k = one (k₀ + 1 - k) + one (k₀ + 2 - k) + one (j + 1 - k) + one (j - k) + one (j - 1 - k)
-
-ahead-falls : (a k m : ℕ) → k ≤ m → one (a - m) ≤ one (a - k)
-unfolding one
-ahead-falls a k m p = omega arith
-
-ahead-passed : (a k : ℕ) → a ≡ k + 1 → one (a - (k + 1)) + 1 ≤ one (a - k)
-unfolding one
-ahead-passed a k e = omega arith
-
-five-falls : (k₀ j k m : ℕ) → k ≤ m → five k₀ j m ≤ five k₀ j k
-unfolding five
-five-falls k₀ j k m p = omega (arith, falls (k₀ + 1), falls (k₀ + 2), falls (j + 1), falls j, falls (j - 1))
-  where
-    falls : (a : ℕ) → one (a - m) ≤ one (a - k)
-    falls a = ahead-falls a k m p
-
--- a tick of the five is passed
-five-passed : (k₀ j k : ℕ) → k₀ ≤ k → (k ≤ k₀ + 1) ⊎ ((k ≤ j) × (j ≤ k + 2)) → five k₀ j (k + 1) + 1 ≤ five k₀ j k
-unfolding five
-five-passed k₀ j k p d = go d
-  where
-    falls : (a : ℕ) → one (a - (k + 1)) ≤ one (a - k)
-    falls a = ahead-falls a k (k + 1) (omega arith)
-
-    passed : (a : ℕ) → a ≡ k + 1 → one (a - (k + 1)) + 1 ≤ one (a - k)
-    passed a = ahead-passed a k
-
-    go : (k ≤ k₀ + 1) ⊎ ((k ≤ j) × (j ≤ k + 2)) → five k₀ j (k + 1) + 1 ≤ five k₀ j k
-    go (inl q) =
-        elim (decLe k k₀) [
-          | yes l ↦ omega (arith, passed (k₀ + 1) (omega arith), falls (k₀ + 2), falls (j + 1), falls j, falls (j - 1))
-          | no l ↦ omega (arith, falls (k₀ + 1), passed (k₀ + 2) (omega arith), falls (j + 1), falls j, falls (j - 1))
-        ]
-    go (inr q) =
-        elim (decLe j k) [
-          | yes l ↦ omega (arith, falls (k₀ + 1), falls (k₀ + 2), passed (j + 1) (omega (arith, q .0)), falls j, falls (j - 1))
-          | no l ↦ elim (decLe j (k + 1)) [
-            | yes m ↦ omega (arith, falls (k₀ + 1), falls (k₀ + 2), falls (j + 1), passed j (omega arith), falls (j - 1))
-            | no m ↦ omega (arith, falls (k₀ + 1), falls (k₀ + 2), falls (j + 1), falls j, passed (j - 1) (omega (arith, q .1)))
-          ]
-        ]
-
-five-most : (k₀ j k : ℕ) → five k₀ j k ≤ 5
-unfolding five
-five-most k₀ j k = omega (arith, one-le (k₀ + 1 - k), one-le (k₀ + 2 - k), one-le (j + 1 - k), one-le (j - k), one-le (j - 1 - k))
-
--- 2 for each of the five still ahead, 1 for an echo unsent, 1 for a jump that can be made, 1 for a passive node
-potential : ℕ → List Row → ℕ → ℕ → Node → ℕ
-potential w rows k₀ j p = 2 * five k₀ j (p .tick) + one (p .tick - p .sent) + one (jumpTo w p rows) + one (1 - p .mode)
-
-potential-most : (w : ℕ) (rows : List Row) (k₀ j : ℕ) (p : Node) → potential w rows k₀ j p ≤ 13
-unfolding potential
-potential-most w rows k₀ j p =
-    omega (arith, five-most k₀ j (p .tick), one-le (p .tick - p .sent), one-le (jumpTo w p rows), one-le (1 - p .mode))
-
--- a jump that can be made from a higher tick could be made from a lower one
-jump-falls : (w m low high : ℕ) (rows : List Row) → low ≤ high → one (greatest w ECHO m high rows) ≤ one (greatest w ECHO m low rows)
-jump-falls w m low high rows p = go (greatest w ECHO m high rows) refl
-  where
-    go : (x : ℕ) → greatest w ECHO m high rows ≡ x → one (greatest w ECHO m high rows) ≤ one (greatest w ECHO m low rows)
-    go zero e = omega (arith, one-none (greatest w ECHO m high rows) e)
-    go (suc t) e =
-        let h = greatest-held w ECHO m high rows t e in
-        omega (
-          arith,
-          one-le (greatest w ECHO m high rows),
-          one-some (greatest w ECHO m low rows) (omega (arith, greatest-most w ECHO m low rows t (omega (arith, h .0)) (h .1) (h .2))),
-        )
+use Rattle.rules.proofs.Firing.{Told, told, wake-told, settle-further}
+use Rattle.rules.proofs.Within.{RestsIn, TicksAt, rests-sooner, rests-by, quiet-rests}
 
 -- after the greatest jump there is none
 jump-done : (w m low l : ℕ) (rows : List Row) → greatest w ECHO m low rows ≡ suc l → greatest w ECHO m (l - 1 + 2) rows ≡ 0
@@ -122,139 +37,286 @@ jump-done w m low l rows e =
     below : (t : ℕ) → l - 1 + 2 ≤ t → low ≤ t
     below t p = let h = greatest-held w ECHO m low rows l e in omega (arith, h .0)
 
--- ---- each firing lowers it
+-- ---- one delivery to a node at rest
 
-module _ (w last k₀ j : ℕ) (rows : List Row) where
-  -- only the ticks of the frame have f + 1 holders above k₀ + 1
-  abbrev Calm : ℕ → Type 0
-  Calm f = (t : ℕ) → k₀ + 2 ≤ t → f + 1 ≤ holders w ECHO t rows → (t ≤ j) × (j ≤ t + 2)
-
-  fire-lowers :
-      (p : Node) (r : Rule)
-      → atRest r ≡ false
-      → Calm (p .faults)
-      → 2 * p .faults + 1 ≤ p .lines
-      → k₀ ≤ p .tick
-      → Told w last rows p r
-      → potential w rows k₀ j (fired p r) + 1 ≤ potential w rows k₀ j p
-  unfolding potential fired
-  fire-lowers p Rest ne calm n q t = absurd (true≢false ne)
-  fire-lowers p Echo ne calm n q t = omega (arith, one-none (p .tick - p .tick) (omega arith), one-some (p .tick - p .sent) (omega arith))
-  fire-lowers p Tick ne calm n q t =
-      omega (
-        arith,
-        five-passed k₀ j (p .tick) q near,
-        jump-falls w (p .faults + 1) (p .tick + 2) (p .tick + 1 + 2) rows (omega arith),
-        one-le (p .tick + 1 - p .sent),
-      )
-    where
-      near : (p .tick ≤ k₀ + 1) ⊎ ((p .tick ≤ j) × (j ≤ p .tick + 2))
-      near = elim (decLe (p .tick) (k₀ + 1)) [ yes a ↦ inl a | no a ↦ inr (calm (p .tick) (omega arith) (omega (arith, t .0))) ]
-  fire-lowers p (Jump l) ne calm n q t =
-      let h = greatest-held w ECHO (p .faults + 1) (p .tick + 2) rows l t in
-      omega (
-        arith,
-        five-falls k₀ j (p .tick) (l - 1) (omega (arith, h .0)),
-        one-none (greatest w ECHO (p .faults + 1) (l - 1 + 2) rows) (jump-done w (p .faults + 1) (p .tick + 2) l rows t),
-        one-some (jumpTo w p rows) (omega (arith, t)),
-        one-none (l - 1 - (l - 1)) (omega arith),
-      )
-  fire-lowers p (Wake x) ne calm n q t =
-      omega (
-        arith,
-        five-falls k₀ j (p .tick) (max (x - 1) (p .tick)) (omega arith),
-        jump-falls w (p .faults + 1) (p .tick + 2) (max (x - 1) (p .tick) + 2) rows (omega arith),
-        one-some (1 - p .mode) (omega (arith, t .0)),
-        one-none (1 - 1) (omega arith),
-        one-none (max (x - 1) (p .tick) - max (p .sent) (max (x - 1) (p .tick))) (omega arith),
-      )
-
-  -- k never falls
-  fire-later : (p : Node) (r : Rule) → Told w last rows p r → p .tick ≤ fired p r .tick
-  unfolding fired
-  fire-later p Rest t = omega arith
-  fire-later p Echo t = omega arith
-  fire-later p Tick t = omega arith
-  fire-later p (Jump l) t = omega (arith, greatest-held w ECHO (p .faults + 1) (p .tick + 2) rows l t)
-  fire-later p (Wake x) t = omega arith
-
-  -- with a counter of at least the potential, no rule can fire at the end, and the firings are at most the potential
-  comes-to-rest :
-      (c : ℕ) (p : Node)
-      → Calm (p .faults)
-      → 2 * p .faults + 1 ≤ p .lines
-      → k₀ ≤ p .tick
-      → potential w rows k₀ j p ≤ c
-      → (firstRule w last rows (settle w last rows c p .node) ≡ Rest) × (settle w last rows c p .firings ≤ potential w rows k₀ j p)
-  comes-to-rest = settle-induction w last rows Resting used (λ c p e calm n q b. (e, omega arith)) fires
-    where
-      Resting : ℕ → Node → Settled → Type 0
-      Resting c p s =
-          Calm (p .faults)
-          → 2 * p .faults + 1 ≤ p .lines
-          → k₀ ≤ p .tick
-          → potential w rows k₀ j p ≤ c
-          → (firstRule w last rows (s .node) ≡ Rest) × (s .firings ≤ potential w rows k₀ j p)
-
-      used : (p : Node) → Resting 0 p (still p)
-      used p calm n q b = (
-        elim (rest-or (firstRule w last rows p)) [
-          | inl e ↦ e
-          | inr ne ↦ absurd (omega (arith, fire-lowers p (firstRule w last rows p) ne calm n q (told w last rows p)))
-        ],
-        omega arith,
-      )
-
-      fires : FiringStep w last rows Resting
-      fires c p ne ih calm n q b =
-          let rule = firstRule w last rows p in
-          let same = fired-same p rule in
-          let later = fire-later p rule (told w last rows p) in
-          let lower = fire-lowers p rule ne calm n q (told w last rows p) in
-          let rest = ih (subst Calm (sym (same .faults)) calm) (omega arith) (omega arith) (omega arith) in
-          (rest .0, omega arith)
-
--- ---- one delivery
-
--- above k + 1 only the ticks of the frame have f + 1 holders, after a frame is credited to a node at rest
-calm-after :
-    (w last : ℕ) (s : State) (port kind j : ℕ)
-    → 0 < w
-    → firstRule w last (s .rows) (s .node) ≡ Rest
-    → Calm w last (s .node .tick) j (credit w port kind j (s .rows)) (s .node .faults)
-calm-after w last s port kind j wide e t p q = near (decLe t j) (decLe j (t + 2))
+module _
+    (w last : ℕ) (s : State) (port kind j : ℕ) (wide : 0 < w) (many : 3 * s .node .faults + 1 ≤ s .node .lines)
+    (once : count port (serialsIn (s .rows)) ≤ 1) (rest : firstRule w last (s .rows) (s .node) ≡ Rest)
   where
-    none : jumpTo w (s .node) (s .rows) ≡ 0
-    none = subst (Told w last (s .rows) (s .node)) e (told w last (s .rows) (s .node)) .0
+    abbrev p : Node
+    p = s .node
 
-    few : holders w ECHO t (s .rows) < s .node .faults + 1
-    few =
-        elim (decLe (s .node .faults + 1) (holders w ECHO t (s .rows))) [
-          | yes h ↦ absurd
-              (omega (arith, none, greatest-most w ECHO (s .node .faults + 1) (s .node .tick + 2) (s .rows) t p h (omega arith)))
+    abbrev rows : List Row
+    rows = credit w port kind j (s .rows)
+
+    abbrev enough : ℕ
+    enough = p .faults + 1
+
+    abbrev TicksNow : ℕ → Type 0
+    TicksNow t = TicksAt w last rows p t
+
+    -- ---- before the frame no rule could fire
+
+    none : Told w last (s .rows) p Rest
+    none = subst (Told w last (s .rows) p) rest (told w last (s .rows) p)
+
+    -- a test of two parts that fails
+    not-both : (a b : Bool) → (a && b) ≡ false → a ≡ true → b ≡ true → ⊥
+    not-both a b e f g = false≢true (sym e ∙ and-eq-true-iff a b .1 (f, g))
+
+    -- above k + 1 no tick had f + 1 holders
+    few : (t : ℕ) → p .tick + 2 ≤ t → holders w ECHO t (s .rows) < enough
+    few = none-few w ECHO enough (omega arith) (p .tick + 2) (s .rows) (none .2)
+
+    still : TicksAt w last (s .rows) p (p .tick) → ⊥
+    still h = not-both _ _ (none .1) (le-leb _ _ (h .0)) (lt-ltb _ _ (h .1))
+
+    unsent-few : p .sent < p .tick → holders w ECHO (p .tick) (s .rows) < enough
+    unsent-few late =
+        elim (decLe enough (holders w ECHO (p .tick) (s .rows))) [
+          | yes h ↦ absurd (not-both _ _ (none .0) (le-leb _ _ h) (lt-ltb _ _ late))
           | no h ↦ omega arith
         ]
 
-    gained : ((t ≤ j) × (j ≤ t + 2) → ⊥) → ⊥
-    gained n = omega (arith, few, holders-less w port kind j ECHO t (s .rows) wide (λ m. n (added-near kind j t m)))
+    -- ---- the frame
 
-    near : Dec (t ≤ j) → Dec (j ≤ t + 2) → (t ≤ j) × (j ≤ t + 2)
-    near (yes a) (yes b) = (a, b)
-    near (yes a) (no b) = absurd (gained (λ h. b (h .1)))
-    near (no a) d = absurd (gained (λ h. a (h .0)))
+    -- it gives a tick one holder more at most
+    more : (t : ℕ) → holders w ECHO t rows ≤ holders w ECHO t (s .rows) + 1
+    more t = omega (arith, holders-more w port kind j ECHO t (s .rows), once)
 
--- no rule can fire after a delivery to a node at rest, and at most 13 did
-pub delivered-rests :
-    (w last : ℕ) (s : State) (port : ℕ) (frame : Frame)
-    → 0 < w
-    → 2 * s .node .faults + 1 ≤ s .node .lines
-    → firstRule w last (s .rows) (s .node) ≡ Rest
-    → let d = delivered w last s port frame in
-    (firstRule w last (d .state .rows) (d .state .node) ≡ Rest) × (d .firings ≤ 13)
-unfolding delivered settled
-delivered-rests w last s port frame wide many rest =
-    let rows = credited w s port frame in
-    let most = potential-most w rows (s .node .tick) (frame .tick) (s .node) in
-    let calm = calm-after w last s port (frame .kind) (frame .tick) wide rest in
-    let r = comes-to-rest w last (s .node .tick) (frame .tick) rows mostFirings (s .node) calm many (omega arith) (omega arith) in
-    (r .0, omega arith)
+    -- and none to a tick that is not near its own
+    near : (t : ℕ) → holders w ECHO t (s .rows) < holders w ECHO t rows → (t ≤ j) × (j ≤ t + 2)
+    near t gained = go (decLe t j) (decLe j (t + 2))
+      where
+        away : ((t ≤ j) × (j ≤ t + 2) → ⊥) → ⊥
+        away n = omega (arith, holders-less w port kind j ECHO t (s .rows) wide (λ m. n (added-near kind j t m)))
+
+        go : Dec (t ≤ j) → Dec (j ≤ t + 2) → (t ≤ j) × (j ≤ t + 2)
+        go (yes a) (yes b) = (a, b)
+        go (yes a) (no b) = absurd (away (λ h. b (h .1)))
+        go (no a) d = absurd (away (λ h. a (h .0)))
+
+    -- so above k + 1 only its ticks have f + 1 holders
+    calm : (t : ℕ) → p .tick + 2 ≤ t → enough ≤ holders w ECHO t rows → (t ≤ j) × (j ≤ t + 2)
+    calm t q h = near t (omega (arith, few t q))
+
+    -- where R3 can fire at k, k is one of its ticks
+    ticks-near : TicksNow (p .tick) → (p .tick ≤ j) × (j ≤ p .tick + 2)
+    ticks-near h =
+        near (p .tick)
+        (elim (decLe (holders w ECHO (p .tick) rows) (holders w ECHO (p .tick) (s .rows))) [
+          | yes q ↦ absurd (still (omega (arith, h .0), h .1))
+          | no q ↦ omega arith
+        ])
+
+    -- ---- where the clock stops after it has left k: one tick further for a node alone
+
+    record Stops (further : ℕ) : Type 0 where
+      ticked : TicksNow (p .tick) → TicksNow (p .tick + 2 + further) → ⊥
+      jumped : (l : ℕ) → jumpTo w p rows ≡ suc l → TicksNow (l + further) → ⊥
+      -- with others, a node whose echo is unsent has too few holders for R3
+      either : further ≡ 0 → p .sent < p .tick → TicksNow (p .tick) → ⊥
+
+    stops-alone : Stops 1
+    stops-alone =
+        record {
+          ticked = λ h g. omega (arith, ticks-near h .1, calm (p .tick + 2 + 1) (omega arith) (omega (arith, g .0)) .0);
+          jumped = λ l e g.
+              let held = greatest-held w ECHO enough (p .tick + 2) rows l e in
+              omega (
+                arith,
+                e,
+                greatest-most w ECHO enough (p .tick + 2) rows (l + 1) (omega (arith, held .0)) (omega (arith, g .0))
+                    (omega (arith, g .0)),
+              );
+          either = λ e late h. omega (arith, e);
+        }
+
+    stops-together : 2 ≤ p .lines → Stops 0
+    stops-together others =
+        record {
+          ticked = λ h g. omega (arith, few (p .tick + 2 + 0) (omega arith), more (p .tick + 2 + 0), g .0);
+          jumped = λ l e g.
+              let held = greatest-held w ECHO enough (p .tick + 2) rows l e in
+              omega (arith, few (l + 0) (omega (arith, held .0)), more (l + 0), g .0);
+          either = λ e late h. omega (arith, unsent-few late, more (p .tick), h .0);
+        }
+
+    -- ---- an echo frame wakes nobody, and any other moves no clock but by waking the node
+
+    echo-asleep : eqb kind ECHO ≡ true → wakeAt w p rows ≡ 0
+    echo-asleep f = go (eqb (p .mode) 0) (none .3)
+      where
+        same : (t : ℕ) → holders w INIT t rows ≡ holders w INIT t (s .rows)
+        same t = holders-other w port kind j INIT t (s .rows) (λ e. true≢false (sym f ∙ e))
+
+        go :
+            (passive : Bool)
+            → cond passive (greatest w INIT enough 0 (s .rows)) 0 ≡ 0
+            → cond passive (greatest w INIT enough 0 rows) 0 ≡ 0
+        go true z =
+            few-none w INIT enough (omega arith) 0 rows
+            (λ t q. omega (arith, same t, none-few w INIT enough (omega arith) 0 (s .rows) z t q))
+        go false z = refl
+
+    module _ (f : eqb kind ECHO ≡ false) where
+      init-same : (t : ℕ) → holders w ECHO t rows ≡ holders w ECHO t (s .rows)
+      init-same t = holders-other w port kind j ECHO t (s .rows) (λ e. false≢true (sym f ∙ e))
+
+      init-no-tick : TicksNow (p .tick) → ⊥
+      init-no-tick h = still (omega (arith, h .0, init-same (p .tick)), h .1)
+
+      init-no-jump : jumpTo w p rows ≡ 0
+      init-no-jump = few-none w ECHO enough (omega arith) (p .tick + 2) rows (λ t q. omega (arith, few t q, init-same t))
+
+    -- ---- the clock leaves k, once
+
+    -- the node at k with this last echo
+    abbrev at : ℕ → Node
+    at e = clocked p (p .mode) (p .tick) e
+
+    -- two cases of a frame
+    by-kind : {A : Type 0} → (eqb kind ECHO ≡ true → A) → (eqb kind ECHO ≡ false → A) → A
+    by-kind {A = A} echo init = go (eqb kind ECHO) refl
+      where
+        go : (e : Bool) → eqb kind ECHO ≡ e → A
+        go true q = echo q
+        go false q = init q
+
+    after-wake : (e x : ℕ) → Told w last rows (at e) (Wake x) → RestsIn w last rows 2 (fired (at e) (Wake x))
+    unfolding fired
+    after-wake e x t = by-kind (λ f. absurd (omega (arith, awake, echo-asleep f))) (λ f. woken f (decLe (x - 1) (p .tick)))
+      where
+        awake : wakeAt w p rows ≡ suc x
+        awake = wake-told w last rows (at e) x t
+
+        k : ℕ
+        k = max (x - 1) (p .tick)
+
+        no-jump : eqb kind ECHO ≡ false → greatest w ECHO enough (k + 2) rows ≡ 0
+        no-jump f = none-higher w ECHO enough (omega arith) (p .tick + 2) (k + 2) rows (omega arith) (init-no-jump f)
+
+        woken : eqb kind ECHO ≡ false → Dec (x - 1 ≤ p .tick) → RestsIn w last rows 2 (clocked p 1 k (max e k))
+        woken f (yes q) =
+            quiet-rests w last rows k 2 (clocked p 1 k (max e k)) (omega arith)
+            (record {
+              no-jump = no-jump f;
+              no-wake = refl;
+              before = omega arith;
+              stops = λ h. init-no-tick f (subst TicksNow (omega arith) h);
+            })
+        woken f (no q) =
+            quiet-rests w last rows (k + 1) 2 (clocked p 1 k (max e k)) (omega arith)
+            (record {
+              no-jump = no-jump f;
+              no-wake = refl;
+              before = omega arith;
+              stops = λ h. omega (arith, h .0, init-same f (k + 1), few (k + 1) (omega arith));
+            })
+
+    module _ (further : ℕ) (st : Stops further) where
+      after-tick : (e : ℕ) → TicksNow (p .tick) → RestsIn w last rows (2 * further + 3) (fired (at e) Tick)
+      unfolding fired
+      after-tick e h = by-kind ticked (λ f. absurd (init-no-tick f h))
+        where
+          far : (t : ℕ) → p .tick + 1 + 2 ≤ t → holders w ECHO t rows < enough
+          far t q =
+              elim (decLe enough (holders w ECHO t rows)) [
+                | yes g ↦ absurd (omega (arith, calm t (omega arith) g .0, ticks-near h .1))
+                | no g ↦ omega arith
+              ]
+
+          ticked : eqb kind ECHO ≡ true → RestsIn w last rows (2 * further + 3) (clocked p (p .mode) (p .tick + 1) e)
+          ticked f =
+              quiet-rests w last rows (p .tick + 2 + further) (2 * further + 3) (clocked p (p .mode) (p .tick + 1) e) (omega arith)
+              (record {
+                no-jump = few-none w ECHO enough (omega arith) (p .tick + 1 + 2) rows far;
+                no-wake = echo-asleep f;
+                before = omega arith;
+                stops = st .ticked h;
+              })
+
+      after-jump : (e l : ℕ) → jumpTo w p rows ≡ suc l → RestsIn w last rows (2 * further + 2) (fired (at e) (Jump l))
+      unfolding fired
+      after-jump e l q = by-kind jumped (λ f. absurd (omega (arith, q, init-no-jump f)))
+        where
+          jumped : eqb kind ECHO ≡ true → RestsIn w last rows (2 * further + 2) (clocked p (p .mode) (l - 1) (l - 1))
+          jumped f =
+              let held = greatest-held w ECHO enough (p .tick + 2) rows l q in
+              quiet-rests w last rows (l + further) (2 * further + 2) (clocked p (p .mode) (l - 1) (l - 1)) (omega (arith, held .0))
+              (record {
+                no-jump = jump-done w enough (p .tick + 2) l rows q;
+                no-wake = echo-asleep f;
+                before = omega arith;
+                stops = st .jumped l q;
+              })
+
+      -- whichever rule fires at k
+      moved :
+          (b e : ℕ)
+          → (e < p .tick → RestsIn w last rows b (at (p .tick)))
+          → (TicksNow (p .tick) → 2 * further + 3 ≤ b)
+          → 2 * further + 2 ≤ b
+          → (rule : Rule)
+          → atRest rule ≡ false
+          → Told w last rows (at e) rule
+          → RestsIn w last rows b (fired (at e) rule)
+      unfolding fired
+      moved b e echo tick most Rest fires t = absurd (true≢false fires)
+      moved b e echo tick most Echo fires t = echo t
+      moved b e echo tick most Tick fires t = rests-sooner w last rows (2 * further + 3) b (fired (at e) Tick) (tick t) (after-tick e t)
+      moved b e echo tick most (Jump l) fires t =
+          rests-sooner w last rows (2 * further + 2) b (fired (at e) (Jump l)) most (after-jump e l t)
+      moved b e echo tick most (Wake x) fires t = rests-sooner w last rows 2 b (fired (at e) (Wake x)) (omega arith) (after-wake e x t)
+
+      -- an echo, and then the clock leaves k; or the clock leaves k at once
+      comes-to-rest : RestsIn w last rows (3 * further + 4) p
+      comes-to-rest =
+          rests-by w last rows (3 * further + 4) (3 * further + 3) p (omega arith)
+          (moved (3 * further + 3) (p .sent) echoed (λ h. omega arith) (omega arith))
+        where
+          echoed : p .sent < p .tick → RestsIn w last rows (3 * further + 3) (at (p .tick))
+          echoed late =
+              rests-by w last rows (3 * further + 3) (3 * further + 2) (at (p .tick)) (omega arith)
+              (moved (3 * further + 2) (p .tick) (λ q. absurd (omega arith)) ticks (omega arith))
+            where
+              ticks : TicksNow (p .tick) → 2 * further + 3 ≤ 3 * further + 2
+              ticks h = elim (ℕ-discrete further 0) [ yes e ↦ absurd (st .either e late h) | no n ↦ omega arith ]
+
+-- ---- what a delivery promises
+
+module _
+    (w last : ℕ) (s : State) (port : ℕ) (frame : Frame) (wide : 0 < w) (many : 3 * s .node .faults + 1 ≤ s .node .lines)
+    (once : count port (serialsIn (s .rows)) ≤ 1) (rest : firstRule w last (s .rows) (s .node) ≡ Rest)
+  where
+    within : (further : ℕ) → Stops w last s port (frame .kind) (frame .tick) wide many once rest further →
+        RestsIn w last (credited w s port frame) (3 * further + 4) (s .node)
+    within = comes-to-rest w last s port (frame .kind) (frame .tick) wide many once rest
+
+    alone : RestsIn w last (credited w s port frame) firingsAlone (s .node)
+    alone = within 1 (stops-alone w last s port (frame .kind) (frame .tick) wide many once rest)
+
+    -- no rule can fire after it
+    pub delivered-rests : let d = delivered w last s port frame in firstRule w last (d .state .rows) (d .state .node) ≡ Rest
+    unfolding delivered settled
+    delivered-rests = alone mostFirings (omega arith) .0
+
+    -- and few did
+    pub delivered-firings :
+        let d = delivered w last s port frame in
+        (d .firings ≤ firingsAlone) × (2 ≤ s .node .lines → d .firings ≤ firingsTogether)
+    unfolding delivered settled
+    delivered-firings = (alone mostFirings (omega arith) .1, λ others. within 0 (together others) mostFirings (omega arith) .1)
+      where
+        together : 2 ≤ s .node .lines → Stops w last s port (frame .kind) (frame .tick) wide many once rest 0
+        together = stops-together w last s port (frame .kind) (frame .tick) wide many once rest
+
+    -- as many as with any greater counter
+    pub counter-never-decides :
+        (c : ℕ)
+        → mostFirings ≤ c
+        → settle w last (credited w s port frame) c (s .node) ≡ settled w last s port frame
+    unfolding settled
+    counter-never-decides c q =
+        ap (λ (n : ℕ). settle w last (credited w s port frame) n (s .node)) (omega arith)
+        ∙ settle-further w last (credited w s port frame) mostFirings (s .node) (alone mostFirings (omega arith) .0) (c - mostFirings)

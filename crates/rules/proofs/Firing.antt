@@ -7,7 +7,7 @@ use mathlib.Core.Logic.{_⊎_, inl, inr}
 use mathlib.Core.List.{List, [], _∷_}
 use Prim.Native.Nat.{ℕ, zero, suc, _+_, _-_, _≤_, _<_}
 use native.Mathlib.Omega.{arith}
-use borrow.Author.Tests.{leb-true, ltb-true, eqb-true}
+use borrow.Author.Tests.{leb-true, ltb-true, eqb-true, eq-eqb}
 use lib.Dec.{ltb, leb, eqb}
 use lib.ListN.{length}
 use Rattle.fields.specs.Kind.{INIT, ECHO}
@@ -52,7 +52,8 @@ first-rule w last rows p =
 -- ---- what a rule that comes first tells
 
 abbrev pub Told : ℕ → ℕ → List Row → Node → Rule → Type 0
-Told w last rows p Rest = (jumpTo w p rows ≡ 0) × (wakeAt w p rows ≡ 0)
+Told w last rows p Rest =
+    (canR2 w p rows ≡ false) × (canR3 w last p rows ≡ false) × (jumpTo w p rows ≡ 0) × (wakeAt w p rows ≡ 0)
 Told w last rows p Echo = p .sent < p .tick
 Told w last rows p Tick = (p .lines - p .faults ≤ holders w ECHO (p .tick) rows) × (p .tick < last)
 Told w last rows p (Jump l) = jumpTo w p rows ≡ suc l
@@ -92,7 +93,10 @@ told w last rows p =
         (leb-true (p .lines - p .faults) (holders w ECHO (p .tick) rows) (both .0), ltb-true (p .tick) last (both .1))
     go false e false f false g (suc l) h x i = h
     go false e false f false g zero h (suc x) i = woke x (eqb (p .mode) 0) refl i
-    go false e false f false g zero h zero i = (h, i)
+    go false e false f false g zero h zero i = (f, g, h, i)
+
+pub wake-told : (w last : ℕ) (rows : List Row) (p : Node) (x : ℕ) → Told w last rows p (Wake x) → wakeAt w p rows ≡ suc x
+wake-told w last rows p x t = rw (eq-eqb (p .mode) 0 (t .0)) (t .1)
 
 -- the first rule can fire: a jump goes past the next tick, so that it is none to 0
 pub can-fire : (w last : ℕ) (rows : List Row) (p : Node) → CanFire last p (firstRule w last rows p)
@@ -212,6 +216,25 @@ module _ (w last : ℕ) (rows : List Row) where
           → P (suc c) p (settle w last rows (suc c) p)
       go (inl e) ih = subst (P (suc c) p) (sym (settle-rest (suc c) p e)) (rests c p e)
       go (inr e) ih = subst (P (suc c) p) (sym (settle-fires c p e)) (fires c p e ih)
+
+  -- once at rest, a greater count changes nothing
+  pub settle-further :
+      (c : ℕ) (p : Node)
+      → firstRule w last rows (settle w last rows c p .node) ≡ Rest
+      → (d : ℕ)
+      → settle w last rows (c + d) p ≡ settle w last rows c p
+  settle-further =
+      settle-induction Further (λ p e d. settle-rest (0 + d) p e) (λ c p e _ d. settle-rest (suc c + d) p e)
+      (λ c p fires ih e d.
+      ap (λ (n : ℕ). settle w last rows n p) (onwards c d)
+      ∙ settle-fires (c + d) p fires
+      ∙ ap (follows p (firstRule w last rows p)) (ih e d))
+    where
+      Further : ℕ → Node → Settled → Type 0
+      Further c p s = firstRule w last rows (s .node) ≡ Rest → (d : ℕ) → settle w last rows (c + d) p ≡ s
+
+      onwards : (c d : ℕ) → suc c + d ≡ suc (c + d)
+      onwards c d = omega arith
 
   -- what holds of each record that the first rule says, seen from the node in the end, holds of each record of settling. `Kept` is what
   -- firing keeps of the node

@@ -9,3 +9,4 @@ pub mod Records
 pub mod Sent
 pub mod Single
 pub mod Which
+pub mod Within

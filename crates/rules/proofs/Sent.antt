@@ -1,5 +1,6 @@
 -- What settling and a delivery send: at most one record for each firing and one answer, and none with a tick above k afterwards.
 -- Assumes nothing.
+use mathlib.Core.Path.{_≡_, ap}
 use mathlib.Core.List.{List}
 use Prim.Native.Nat.{ℕ, _+_, _≤_, _<_}
 use native.Mathlib.Omega.{arith}
@@ -17,7 +18,7 @@ use Rattle.rules.specs.Rules.{firstRule, woken, fired, said, settle}
 use Rattle.rules.specs.declared.node.Node.{Node}
 use Rattle.rules.specs.declared.node.Rule.{Rule}
 use Rattle.rules.specs.declared.node.Rule.the-variants.{Rest, Echo, Tick, Jump, Wake}
-use Rattle.rules.proofs.Answering.{answered, delivered-every}
+use Rattle.rules.proofs.Answering.{answered, answer-own, delivered-every}
 use Rattle.rules.proofs.Clock.{fire-ordered, settle-ordered}
 use Rattle.rules.proofs.Every.{every-map}
 use Rattle.rules.proofs.Firing.{told, one-or-none, said-few, settle-induction, settle-every}
@@ -32,18 +33,23 @@ settle-few w last rows =
     let rule = firstRule w last rows p in
     omega (arith, said-few p rule, length-append (said p rule) (settle w last rows c (fired p rule) .records)))
 
-pub delivered-few :
-    (w last : ℕ) (s : State) (port : ℕ) (frame : Frame)
-    → let d = delivered w last s port frame in
-    length (d .records) ≤ d .firings + 1
-unfolding delivered settled
-delivered-few w last s port frame =
-    omega (
-      arith,
-      length-append (answer (s .node) port frame) (settle w last (credited w s port frame) mostFirings (s .node) .records),
-      answered (λ l. length l ≤ 1) (s .node) port frame (λ a. omega arith) (omega arith),
-      settle-few w last (credited w s port frame) mostFirings (s .node),
-    )
+module _ (w last : ℕ) (s : State) (port : ℕ) (frame : Frame) where
+  -- and what is answered
+  sent-few : let d = delivered w last s port frame in length (d .records) ≤ d .firings + length (answer (s .node) port frame)
+  unfolding delivered settled
+  sent-few =
+      omega (
+        arith,
+        length-append (answer (s .node) port frame) (settle w last (credited w s port frame) mostFirings (s .node) .records),
+        settle-few w last (credited w s port frame) mostFirings (s .node),
+      )
+
+  pub delivered-few : let d = delivered w last s port frame in length (d .records) ≤ d .firings + 1
+  delivered-few = omega (arith, sent-few, answered (λ l. length l ≤ 1) (s .node) port frame (λ a. omega arith) (omega arith))
+
+  -- a node does not answer itself
+  pub own-few : port ≡ s .node .own → let d = delivered w last s port frame in length (d .records) ≤ d .firings
+  own-few own = omega (arith, sent-few, ap length (answer-own (s .node) port frame own))
 
 -- ---- no record carries a tick above k after the delivery
 

@@ -13,7 +13,12 @@ pub one-delivery :
     → DeliveredAs d b i out r′ image′ after′
     → (r ≡ r′) × (image ≡ image′) × (after ≡ after′)
 one-delivery d b i out r r′ image image′ after after′ h g = (
-  λ x. record { node = (h .node ∙ sym (g .node)) x; records = (h .records ∙ sym (g .records)) x },
+  λ x.
+      record {
+        node = (h .node ∙ sym (g .node)) x;
+        records = (h .records ∙ sym (g .records)) x;
+        fired = (h .fired ∙ sym (g .fired)) x;
+      },
   h .rows ∙ sym (g .rows),
   h .bytes ∙ sym (g .bytes),
 )

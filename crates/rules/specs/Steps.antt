@@ -67,6 +67,8 @@ pub record CanSettle (p : Node) (b : List ℕ) (i : ℕ) (out : List ℕ) (start
 pub record SettledAs (s : Settled) (start : ℕ) (out : List ℕ) (r : Next) (after : List ℕ) : Type 0 where
   pub node : r .node ≡ s .node
   pub sent : SentAs mostFirings (s .records) start out (r .records) after
+  pub fired : r .fired ≡ s .firings
+  pub allowed : r .fired ≤ mostFirings
 
 -- ---- a delivery: the port stands in one row at most
 
@@ -75,10 +77,12 @@ pub record CanDeliver (p : Node) (b : List ℕ) (i port : ℕ) (out : List ℕ) 
   pub space : room ≤ length out
   pub once : count port (words (p .lines) rowBytes b i) ≤ 1
 
--- the node that follows, its rows in the buffer, and its records
+-- the node that follows, its rows in the buffer, its records, and how many rules fired
 pub record DeliveredAs (d : Delivered) (b : List ℕ) (i : ℕ) (out : List ℕ) (r : Next) (image after : List ℕ) : Type 0 where
   pub node : r .node ≡ d .state .node
   pub rows : image ≡ putRows maskBytes b i (d .state .rows)
   pub records : r .records ≡ length (d .records)
   pub few : r .records ≤ mostFirings + 1
   pub bytes : after ≡ putRecords out 0 (d .records)
+  pub fired : r .fired ≡ d .firings
+  pub allowed : r .fired ≤ mostFirings

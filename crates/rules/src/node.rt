@@ -52,10 +52,11 @@ pub struct Node {
     pub sent: u32,
 }
 
-// The node that follows, with the count of its records.
+// The node that follows, with the count of its records, and how many rules fired.
 pub struct Next {
     pub node: Node,
     pub records: usize,
+    pub fired: usize,
 }
 
 // Whether a frame asks for an answer: (echo, 0) without the flag. An answer is never answered.
@@ -83,10 +84,10 @@ impl Node {
     pub const LAST_TICK: u32 = 4_000_000_000;
 
     // How many rules one delivery may fire.
-    pub const MOST_FIRINGS: u32 = 15;
+    pub const MOST_FIRINGS: usize = 15;
 
     // Bytes of output that boot and deliver ask: a record for each firing, and the answer.
-    pub const ROOM: usize = (Node::MOST_FIRINGS as usize + 1) * RECORD;
+    pub const ROOM: usize = (Node::MOST_FIRINGS + 1) * RECORD;
 
     // A fresh node: clock 0, last echo 0, passive.
     pub fn new(lines: u32, faults: u32, own: u32) -> Node
@@ -240,7 +241,7 @@ impl Node {
         }
     }
 
-    // Fires the first rule that can until none can, and puts the records behind the `start` that are there.
+    // Fires the first rule that can until none can, puts the records behind the `start` that are there, and counts the firings.
     fn settle(self, b: &[u8], i: usize, out: &mut [u8], start: usize) -> Next
         requires { ⌜ CanSettle self (now b) i (now out) start ⌝ }
         ensures { λ r. ⌜ SettledAs (settle window lastTick (rowsFrom self (now (b .entry)) i) mostFirings self)
@@ -248,17 +249,26 @@ impl Node {
     {
         let mut node = self;
         let mut records = start;
-        let mut left = Node::MOST_FIRINGS;
-        while 0 < left {
+        let mut fired = 0;
+        while fired < Node::MOST_FIRINGS {
             let rule = node.rule(b, i);
             if rule.is_at_rest() {
-                return Next { node, records };
+                return Next {
+                    node,
+                    records,
+                    fired,
+                };
             }
-            records = node.say(rule, out, records);
+            let said = node.say(rule, out, records);
             node = node.fire(rule);
-            left -= 1;
+            fired += 1;
+            records = said;
         }
-        Next { node, records }
+        Next {
+            node,
+            records,
+            fired,
+        }
     }
 
     // The answer to another serial that asks for one: the last echo sent before this delivery.

@@ -78,9 +78,10 @@ fn same(step: Step, old: &[u8], image: &[u8], out: &[u8]) -> bool {
         && kept(&fresh, out, step.written, OUT)
 }
 
-// Number, records, the bytes of the image that the step names, and whether the rest stayed.
+// Number, records, rules fired, the bytes of the image that the step names, and whether the rest stayed.
 pub(crate) fn answer(step: Step, answer: Answer, old: &[u8], image: &[u8], out: &[u8]) {
     pair(answer.number, answer.records);
+    number(answer.fired);
     io::write_all(1, b" |");
     bytes(out, 0, RECORD * (answer.records as usize));
     part(image, 0, step.front);

@@ -72,8 +72,7 @@ same-length c = search needs
 returns : tie.Need-returns
 returns c =
     let boot = shown (c .before .before .before .before) in
-    let number = ap (λ (o : Outcome). o .number) (boot .outcome) in
-    puts-as (sym (lines-refused layout lastTick _ _ (λ h. c .if1 .taken (number ∙ h)))) (omega arith) (boot .line)
+    puts-as (sym (lines-refused layout lastTick _ _ (λ h. c .if1 .taken (boot .number ∙ h)))) (omega arith) (boot .line)
 
 slice-aggregate-play-events : tie.Need-slice-aggregate-play-events
 slice-aggregate-play-events c = search needs
@@ -96,10 +95,10 @@ lines : {log : List ℕ} {taken : Log} {o : Outcome} {out : List ℕ} {boot : Ca
     TakenLog log taken → CallShown 0 o out 0 boot image sent after → boot .number ≡ 0 →
     lineOf 0 o ++ eventLines layout lastTick log (taken .count) (taken .events) 1 image sent ≡ callLines layout lastTick log o
 lines {log} {taken} {o = o} t shown ok =
-    let is = shown .outcome in
-    ap (λ (x : Outcome). lineOf 0 o ++ eventLines layout lastTick log (taken .count) (taken .events) 1 (x .image) (x .out)) is
+    ap₂ (λ (a b : List ℕ). lineOf 0 o ++ eventLines layout lastTick log (taken .count) (taken .events) 1 a b)
+    (shown .image-left) (shown .out-left)
     ∙ ap₂ (λ (n e : ℕ). lineOf 0 o ++ eventLines layout lastTick log n e 1 (o .image) (o .out)) (t .count) (t .events)
-    ∙ sym (lines-taken layout lastTick log o (sym (ap (λ (x : Outcome). x .number) is) ∙ ok))
+    ∙ sym (lines-taken layout lastTick log o (sym (shown .number) ∙ ok))
 
 returns-2 : tie.Need-returns-2
 returns-2 c =

@@ -1,7 +1,7 @@
 -- `player::play_event` meets its contract: the delivery of what stands at the event's place is the event's call, and the line shows it.
 -- Assumes nothing.
 use borrow.Author.Needs.{needs}
-use mathlib.Core.Path.{_≡_, refl, ap₂, _∙_}
+use mathlib.Core.Path.{_≡_, refl, ap, ap₂, _∙_}
 use mathlib.Core.List.{List}
 use Prim.Native.Nat.{ℕ, _+_, _-_}
 use native.Mathlib.Omega.{arith}
@@ -91,7 +91,14 @@ returns c =
     let delivered = looked .before .before .before .before .before .before in
     let is = called delivered in
     let e : ℕ = delivered .before .before .before .before .before .before .before .before .before .args .before .event + 1 in
-    record { event = refl; outcome = is; line = puts-call e is (looked .word2 .ensures) (put .put-line .ensures) }
+    record {
+      event = refl;
+      number = ap (λ (o : Outcome). o .number) is;
+      records = ap (λ (o : Outcome). o .records) is;
+      image-left = ap (λ (o : Outcome). o .image) is;
+      out-left = ap (λ (o : Outcome). o .out) is;
+      line = puts-call e is (looked .word2 .ensures) (put .put-line .ensures);
+    }
 
 pub play-event-spec : {M : Type 1} → statement M
 play-event-spec =

@@ -2,7 +2,7 @@
 -- of now, are the lines of all events.
 -- Assumes nothing.
 use borrow.Author.Needs.{needs}
-use mathlib.Core.Path.{_≡_, refl, ap, _∙_}
+use mathlib.Core.Path.{_≡_, refl, _∙_}
 use mathlib.Core.List.{List, [], _++_, append-assoc, append-nil}
 use Prim.Native.Nat.{ℕ, _+_, _*_, _-_, _≤_, _<_}
 use native.Mathlib.Nat.{sub-zero}
@@ -48,12 +48,10 @@ module _ {log : List ℕ} {start n : ℕ} {image₀ sent₀ out₀ : List ℕ} {
   plays {call} {image₁} {sent₁} {after} room more p image-kept sent-kept out-kept =
       let i : ℕ = before .event in
       let o : Outcome = eventCall layout lastTick log place image sent in
-      let image-is : image₁ ≡ o .image = ap (λ (x : Outcome). x .image) (p .outcome) in
-      let sent-is : sent₁ ≡ o .out = ap (λ (x : Outcome). x .out) (p .outcome) in
       record {
         done = h .done ++ lineOf (i + 1) o;
         laid = puts-as refl (omega (arith, p .event)) (puts-then (omega arith) (h .laid) (p .line));
-        all = rw (p .event, image-is, sent-is, append-assoc, lines-step layout lastTick log n i place image sent more) (h .all);
+        all = rw (p .event, p .image-left, p .out-left, append-assoc, lines-step layout lastTick log n i place image sent more) (h .all);
         turn = omega (arith, p .event);
         here = omega (arith, p .event);
         image-room = image-kept ∙ h .image-room;

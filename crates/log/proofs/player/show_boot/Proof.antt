@@ -25,7 +25,14 @@ same-length c = search needs
 returns : tie.Need-returns
 returns c sent =
     let put = c .before .before in
-    record { event = refl; outcome = refl; line = puts-call 0 refl (put .before .before .before .word .ensures) (put .put-line .ensures) }
+    record {
+      event = refl;
+      number = refl;
+      records = refl;
+      image-left = refl;
+      out-left = refl;
+      line = puts-call 0 refl (put .before .before .before .word .ensures) (put .put-line .ensures);
+    }
 
 pub show-boot-spec : {M : Type 1} → statement M
 show-boot-spec =

@@ -133,6 +133,7 @@ done : (c : tie.After-put-broadcast) →
     ≡ record {
       number = 0;
       records = 1;
+      fired = 0;
       image = c .before .before .before .before .put-fresh-rows .last .0;
       out = c .put-broadcast .last .0;
     }

@@ -12,7 +12,7 @@ use Prim.Native.Nat.{ℕ, _≤_}
 use borrow.Author.Tests.{eqb-false, ne-eqb}
 use Rattle.forms.specs.Frame.{frameAt, frameNumber}
 use Rattle.forms.proofs.Told.{refusal, first-given}
-use Rattle.node.specs.Calls.{refused, numberBeforeFrame, deliverNumber, deliveryOf, imageAfter, deliverOutcome}
+use Rattle.node.specs.Calls.{Outcome, refused, numberBeforeFrame, deliverNumber, deliveryOf, imageAfter, deliverOutcome}
 use Rattle.rules.specs.Describe.{window, lastTick}
 use Rattle.node.specs.Image.{layout, headerSize, nodeOf, stateOf}
 use Rattle.rules.specs.Steps.{DeliveredAs}
@@ -151,6 +151,9 @@ put-clock-requires c κs =
 cast-t26 : tie.Need-cast-t26
 cast-t26 c = search needs
 
+cast-t27 : tie.Need-cast-t27
+cast-t27 c = search needs
+
 same-length-2 : tie.Need-same-length-2
 same-length-2 c = search needs
 
@@ -160,10 +163,19 @@ same-length-3 c = search needs
 same-length-4 : tie.Need-same-length-4
 same-length-4 c = search needs
 
+-- what is reported is what the engine counted
+reports :
+    {image out : List ℕ} {records fired n m : ℕ}
+    → records ≡ n
+    → fired ≡ m
+    → _≡_ {A = Outcome} (record { number = 0; records = records; fired = fired; image = image; out = out })
+    (record { number = 0; records = n; fired = m; image = image; out = out })
+reports {image} {out} e f d = record { number = 0; records = e d; fired = f d; image = image; out = out }
+
 returns-3 : tie.Need-returns-3
 unfolding deliverOutcome imageAfter
 returns-3 c =
-    let clock = c .before .before .before in
+    let clock = c .before .before .before .before in
     let engine = clock .before .before .before .before .before .before in
     let d = done engine in
     rw (
@@ -171,9 +183,9 @@ returns-3 c =
       clock .put-clock .ensures,
       d .node,
       d .rows,
-      d .records,
       d .bytes,
     )
+    (reports (d .records) (d .fired))
 
 pub deliver-spec : {M : Type 1} → statement M
 deliver-spec =
@@ -190,6 +202,7 @@ deliver-spec =
     deliver-requires
     put-clock-requires
     cast-t26
+    cast-t27
     same-length-2
     returns-2
     same-length-3

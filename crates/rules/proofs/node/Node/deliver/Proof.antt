@@ -77,7 +77,15 @@ delivers :
 unfolding delivered
 delivers s port frame rows first h =
     let all = sent-then first (h .sent) in
-    record { node = h .node; rows = rows; records = omega (arith, all .records); few = omega (arith, all .few); bytes = all .bytes }
+    record {
+      node = h .node;
+      rows = rows;
+      records = omega (arith, all .records);
+      few = omega (arith, all .few);
+      bytes = all .bytes;
+      fired = h .fired;
+      allowed = h .allowed;
+    }
 
 returns : tie.Need-returns
 unfolding settled

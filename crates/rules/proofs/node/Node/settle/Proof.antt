@@ -4,7 +4,7 @@ use borrow.Author.Needs.{needs}
 use mathlib.Core.Path.{_≡_, refl, sym, ap, _∙_, subst}
 use mathlib.Core.Bool.{false}
 use mathlib.Core.List.{List, _++_}
-use Prim.Native.Nat.{ℕ, _+_, _-_, _*_, _≤_, _<_}
+use Prim.Native.Nat.{ℕ, suc, _+_, _-_, _*_, _≤_}
 use native.Mathlib.Nat.{add-zero}
 use native.Mathlib.Omega.{arith}
 use denote.Ref.{now}
@@ -17,7 +17,7 @@ use Rattle.rules.specs.Rules.{Settled, still, firstRule, atRest, fired, 
 use Rattle.rules.specs.Steps.{rowsFrom, CanFire, SettledAs}
 use Rattle.rules.specs.declared.node.Node.{Node}
 use Rattle.rules.specs.declared.node.Rule.{Rule}
-use Rattle.rules.proofs.Firing.{can-fire, rest-true, said-few, Same, same-trans, fired-same, settle-none, settle-rest, settle-down}
+use Rattle.rules.proofs.Firing.{can-fire, rest-true, said-few, Same, same-trans, fired-same, settle-none, settle-rest, settle-fires}
 use Rattle.rules.proofs.Records.{length-putRecords, put-records-none, put-records-behind}
 use Rattle.rules.proofs.node.Node.settle.Statement.{statement}
 use Rattle.rules.proofs.node.Node.settle.Tie as tie
@@ -26,26 +26,32 @@ use Rattle.rules.proofs.node.Node.settle.Tie as tie
 abbrev from : List Row → ℕ → Node → Settled
 from rows c p = settle window lastTick rows c p
 
--- where a turn begins: a node, its count of records and the firings left, against those of the start
-record Settling (rows : List Row) (start : ℕ) (out₀ : List ℕ) (p₀ : Node) (out : List ℕ) (p : Node) (n left : ℕ) : Type 0 where
+-- where a turn begins: a node, its count of records and of firings, and what may still fire, against those of the start
+record Settling (rows : List Row) (start : ℕ) (out₀ : List ℕ) (p₀ : Node) (out : List ℕ) (p : Node) (n m left : ℕ) : Type 0 where
   node : from rows left p .node ≡ from rows mostFirings p₀ .node
   count : n + length (from rows left p .records) ≡ start + length (from rows mostFirings p₀ .records)
   bytes :
       putRecords out (recordSize * n) (from rows left p .records)
       ≡ putRecords out₀ (recordSize * start) (from rows mostFirings p₀ .records)
-  few : n + left ≤ start + mostFirings
+  firings : m + from rows left p .firings ≡ from rows mostFirings p₀ .firings
+  few : n ≤ start + m
+  whole : m + left ≡ mostFirings
   same : Same p p₀
   space : length out ≡ length out₀
 
 module _
-    {rows : List Row} {start : ℕ} {out₀ : List ℕ} {p₀ : Node} {out : List ℕ} {p : Node} {n left : ℕ}
-    (h : Settling rows start out₀ p₀ out p n left)
+    {rows : List Row} {start : ℕ} {out₀ : List ℕ} {p₀ : Node} {out : List ℕ} {p : Node} {n m left : ℕ}
+    (h : Settling rows start out₀ p₀ out p n m left)
   where
     -- at rest all is said
-    ended : from rows left p ≡ still p → SettledAs (from rows mostFirings p₀) start out₀ (record { node = p; records = n }) out
+    ended :
+        from rows left p ≡ still p
+        → SettledAs (from rows mostFirings p₀) start out₀ (record { node = p; records = n; fired = m }) out
     ended e =
         record {
           node = sym (ap (λ (s : Settled). s .node) e) ∙ h .node;
+          allowed = omega (arith, h .whole);
+          fired = sym (add-zero m) ∙ sym (ap (λ (s : Settled). m + s .firings) e) ∙ h .firings;
           sent =
               record {
                 records = sym (add-zero n) ∙ sym (ap (λ (s : Settled). n + length (s .records)) e) ∙ h .count;
@@ -58,16 +64,17 @@ module _
 
     -- a firing more
     fires :
-        0 < left
+        (rest : ℕ)
+        → left ≡ suc rest
         → (rule : Rule)
         → rule ≡ firstRule window lastTick rows p
         → atRest rule ≡ false
         → let after = putRecords out (recordSize * n) (said p rule) in
-        Settling rows start out₀ p₀ after (fired p rule) (n + length (said p rule)) (left - 1)
-    fires l rule e goes =
+        Settling rows start out₀ p₀ after (fired p rule) (n + length (said p rule)) (m + 1) rest
+    fires rest l rule e goes =
         let first = firstRule window lastTick rows p in
-        let next = from rows (left - 1) (fired p first) in
-        let down = settle-down window lastTick rows left p l (rw e at goes) in
+        let next = from rows rest (fired p first) in
+        let down = ap (λ (c : ℕ). from rows c p) l ∙ settle-fires window lastTick rows rest p (rw e at goes) in
         let told : from rows left p .records ≡ said p first ++ next .records = ap (λ (s : Settled). s .records) down in
         rw e
         (record {
@@ -76,20 +83,32 @@ module _
           bytes =
               sym (put-records-behind out n (n + length (said p first)) (said p first) (next .records) refl)
               ∙ ap (putRecords out (recordSize * n)) (sym told) ∙ h .bytes;
+          firings = omega (arith, ap (λ (s : Settled). s .firings) down, h .firings);
           few = omega (arith, said-few p first);
+          whole = omega (arith, h .whole);
           same = same-trans (fired-same p first) (h .same);
           space = length-putRecords out (recordSize * n) (said p first) ∙ h .space;
         })
 
 abbrev Inv-loop : tie.InvT-loop
-Inv-loop b i out₀ start node₀ records₀ left₀ out node records left =
-    Settling (rowsFrom node₀ b i) start out₀ node₀ out node records left
+Inv-loop b i out₀ start node₀ records₀ fired₀ out node records fired =
+    Settling (rowsFrom node₀ b i) start out₀ node₀ out node records fired (mostFirings - fired)
 
 abbrev μ-loop : tie.MeasureT-loop
-μ-loop b i out₀ start node₀ records₀ left₀ out node records left = left
+μ-loop b i out₀ start node₀ records₀ fired₀ out node records fired = mostFirings - fired
 
 loop-holds : tie.Need-loop-holds Inv-loop μ-loop
-loop-holds c = record { node = refl; count = refl; bytes = refl; few = omega arith; same = omega arith; space = refl }
+loop-holds c =
+    record {
+      node = refl;
+      count = refl;
+      bytes = refl;
+      firings = omega arith;
+      few = omega arith;
+      whole = refl;
+      same = omega arith;
+      space = refl;
+    }
 
 rule-requires : tie.Need-rule-requires Inv-loop μ-loop
 rule-requires c κs = omega arith
@@ -120,9 +139,10 @@ returns : tie.Need-returns Inv-loop μ-loop
 returns c =
     let a = c .before .before .before .before .before .before .before .args in
     let l = c .before .before .before .before .loop in
+    let rows = rowsFrom (a .self) (now (a .b)) (a .i) in
     let rests = rest-true (c .before .before .rule .result) (sym (c .before .is-at-rest .ensures) ∙ c .if1 .taken) in
     ended (l .inv)
-    (settle-rest window lastTick (rowsFrom (a .self) (now (a .b)) (a .i)) (l .left) (l .node) (sym (first (c .before .before)) ∙ rests))
+    (settle-rest window lastTick rows (mostFirings - l .fired) (l .node) (sym (first (c .before .before)) ∙ rests))
 
 -- by search, which meets it for any rule: that the rule said is the first one shows in `counted`
 say-requires : tie.Need-say-requires Inv-loop μ-loop
@@ -131,8 +151,8 @@ say-requires c κs = search (needs, can (c .before .before .before))
 fire-requires : tie.Need-fire-requires Inv-loop μ-loop
 fire-requires c κs = can (c .before .before .before .before .before .before)
 
-sub-left : tie.Need-sub-left Inv-loop μ-loop
-sub-left c = search needs
+add-fired : tie.Need-add-fired Inv-loop μ-loop
+add-fired c = search needs
 
 loop-less : tie.Need-loop-less Inv-loop μ-loop
 loop-less c = search needs
@@ -149,7 +169,7 @@ loop-again c =
     let rests = says .before .before .before in
     let rules = rests .before in
     rw (c .fire .ensures, counted says, says .say .ensures .bytes)
-    (fires (rules .before .before .loop .inv) (rules .before .loop-test .taken) (rules .rule .result) (first rules)
+    (fires (rules .before .before .loop .inv) _ (omega (arith, rules .before .loop-test .taken)) (rules .rule .result) (first rules)
     (sym (rests .is-at-rest .ensures) ∙ says .before .before .if1 .left))
 
 same-length-2 : tie.Need-same-length-2 Inv-loop μ-loop
@@ -160,7 +180,7 @@ returns-2 c =
     let a = c .before .before .before .before .args in
     let l = c .before .loop in
     let rows = rowsFrom (a .self) (now (a .b)) (a .i) in
-    let none : l .left ≡ 0 = omega arith in
+    let none : mostFirings - l .fired ≡ 0 = omega arith in
     ended (l .inv) (ap (λ (n : ℕ). from rows n (l .node)) none ∙ settle-none window lastTick rows (l .node))
 
 pub settle-spec : {M : Type 1} → statement M
@@ -176,7 +196,7 @@ settle-spec =
     returns
     say-requires
     fire-requires
-    sub-left
+    add-fired
     loop-less
     loop-again
     same-length-2

@@ -64,10 +64,11 @@ extern "C" {
 
 /*
  * For a scheduler that allows each delivery a fixed time, and each controller a fixed share of the line. A delivery fires rules until
- * none can fire; each firing is another look at the image's rows, and sends one record at most. The first figure is the allowance that
- * request A6 fixes, and that the output's room is made for: how many rules one delivery may fire. The others are what is proved of this
- * release where there are n controllers, and is attained: how many rules one delivery fires at most, and how many records it sends at
- * most, an answer among them. Budgets may be checked where the firmware is compiled, as in
+ * none can fire; each firing takes another round of looks at the image's rows, and sends one record at most. The first figure is the
+ * allowance that request A6 fixes, and that the output's room is made for: how many rules one delivery may fire. The others are what is
+ * proved of this release where there are n controllers: how many rules one delivery fires at most, and how many records it sends at
+ * most, an answer among them; there are runs of 1 and of 4 controllers that attain them. Budgets may be checked where the firmware is
+ * compiled, as in
  *     #if BASE_NANOSECONDS + FIRING_NANOSECONDS * PEBRASSOLA_PROVED_FIRED(4) > DELIVERY_NANOSECONDS
  */
 #define PEBRASSOLA_MOST_FIRED 15u
@@ -95,7 +96,10 @@ enum pebrassola_number {
     PEBRASSOLA_SHEET_TICKS = 16   /* an entry's first tick is above its end */
 };
 
-/* The number of a call, how many records stand at the front of the output, and how many times a rule fired: 0 for boot and on a refusal. */
+/*
+ * The number of a call, how many records stand at the front of the output, and how many times a rule fired: 0 for boot and on a refusal.
+ * Before A6 the third field was not there: firmware that links a newer archive is compiled again with the header that belongs to it.
+ */
 struct pebrassola_answer {
     uint32_t number;
     uint32_t records;

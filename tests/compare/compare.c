@@ -63,12 +63,12 @@ int main(void)
     struct sheet_calls sheets = compare_sheets();
     printf("compare: one delivery brought up to %u of %u firings and %u of %u records where n is 1, %u of %u and %u of %u where it is "
            "more\n",
-           nodes.alone.fired, PEBRASSOLA_PROVED_FIRED(1), nodes.alone.records, PEBRASSOLA_PROVED_RECORDS(1), nodes.of_several.fired,
-           PEBRASSOLA_PROVED_FIRED(2), nodes.of_several.records, PEBRASSOLA_PROVED_RECORDS(2));
+           nodes.alone.fired, PEBRASSOLA_PROVED_FIRED(1), nodes.alone.records, PEBRASSOLA_PROVED_RECORDS(1), nodes.together.fired,
+           PEBRASSOLA_PROVED_FIRED(2), nodes.together.records, PEBRASSOLA_PROVED_RECORDS(2));
     printf("compare: %lu calls (%lu random sound images; echo 0 of another %lu times as a broadcast, %lu times as an answer; %lu calls of "
            "sheets, each outcome %lu times or more), %lu differences\n",
            calls, nodes.sound_images, nodes.zeros[0], nodes.zeros[1], sheets.all, sheets.rarest, differences);
     if (calls < 600000 || nodes.sound_images < 1000 || nodes.zeros[0] < 1000 || nodes.zeros[1] < 1000) return 1;
-    if (!reached(nodes.alone, 1) || !reached(nodes.of_several, 2)) return 1;
+    if (!reached(nodes.alone, 1) || !reached(nodes.together, 2)) return 1;
     return differences != 0 || sheets.all < 200000 || sheets.rarest < 1000;
 }

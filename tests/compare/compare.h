@@ -29,7 +29,7 @@ struct figures {
 struct node_calls {
     unsigned long sound_images;       /* random images that were sound */
     unsigned long zeros[2];           /* how often echo 0 of another serial was taken, by its flag: as a broadcast, as an answer */
-    struct figures alone, of_several; /* where n is 1, and where it is more */
+    struct figures alone, together; /* where n is 1, and where it is more */
 };
 
 /* every comparison of boot, deliver and read */

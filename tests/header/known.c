@@ -1,10 +1,11 @@
 /*
- * The header against the archive, by answers that the papers settle and with no model between: W1 to W9 of document 01, a sheet for A1
- * of document 02, frames and two idle controllers for A2, the deliveries that bring most for A6, and a call for each number.
+ * The header against the archive, by answers that the papers settle, or that their rules give by hand, with no model between: W1 to W9 of
+ * document 01, a sheet for A1 of document 02, frames and two idle controllers for A2, the deliveries that bring most for A6, and a call
+ * for each number.
  * The archive puts an answer's fields where its own struct has them, and a C compiler knows only the header's struct: so each field is
  * looked at where its value is known and any other field's is another. Sizes, places and numbers are looked at when this is compiled,
- * unless CALLS_ALONE is defined: then the calls have to notice by themselves. Prints what is wrong and a count; ends with status 1
- * where something is.
+ * unless CALLS_ALONE is defined: then the calls have to notice by themselves. Prints what is wrong and a count; ends with status 1 where
+ * something is.
  */
 #include <stdio.h>
 #include <string.h>
@@ -51,7 +52,7 @@ SETTLED(most_fired, PEBRASSOLA_MOST_FIRED == 15 && (PEBRASSOLA_MOST_FIRED + 1) *
 SETTLED(fired, PEBRASSOLA_PROVED_FIRED(1) == 7 && PEBRASSOLA_PROVED_FIRED(2) == 4 && PEBRASSOLA_PROVED_FIRED(32) == 4);
 SETTLED(records, PEBRASSOLA_PROVED_RECORDS(1) == 7 && PEBRASSOLA_PROVED_RECORDS(2) == 5 && PEBRASSOLA_PROVED_RECORDS(32) == 5);
 #if PEBRASSOLA_PROVED_FIRED(4) > PEBRASSOLA_MOST_FIRED || PEBRASSOLA_PROVED_RECORDS(4) * PEBRASSOLA_RECORD_BYTES > PEBRASSOLA_OUT_BYTES
-#error "a figure of one delivery is no number that the preprocessor can budget with"
+#error "a figure of one delivery is above the allowance or the room that the request fixes"
 #endif
 #endif
 

@@ -129,21 +129,6 @@ def descent(name, instruction):
     return {'push': SLOT, 'pop': -SLOT}.get(instruction.operation, 0)
 
 
-def jumps_by_table(instructions, place):
-    """Whether a jump to an address goes by a table: an entry is read, and the table's start is added to it. Moves between other registers
-    may stand behind that; no jump comes in between."""
-    if not (to := re.fullmatch(rf'jmp \*({REGISTER})', instructions[place].text)):
-        return False
-    add = place - 1
-    while add > 0 and (move := re.fullmatch(rf'mov {REGISTER},({REGISTER})', instructions[add].text)) and move[1] != to[1]:
-        add -= 1
-    if add < 1 or not (added := re.fullmatch(rf'add ({REGISTER}),{to[1]}', instructions[add].text)):
-        return False
-    jumps = {i.operands.split()[0] for i in instructions if i.operation.startswith('j')}
-    entered = any(f'{i.address:x}' in jumps for i in instructions[add : place + 1])
-    return bool(re.fullmatch(rf'movslq \({added[1]},{REGISTER},4\),{to[1]}', instructions[add - 1].text)) and not entered
-
-
 class Way:
     """One function, followed from its start."""
 
@@ -166,6 +151,33 @@ class Way:
             if start is None or entry - (at - start) not in self.places:
                 raise Refused(f'{self.name}: the entry at {at:x} of its table leads to no instruction')
             yield self.places[entry - (at - start)]
+
+    def jumps_by_table(self, place):
+        """Whether a jump to an address goes by a table of this function: its start is named, an entry is read, and the start is added to
+        it. Moves between other registers may stand behind that. No jump leads into the middle of it."""
+        if not (to := re.fullmatch(rf'jmp \*({REGISTER})', self.instructions[place].text)):
+            return False
+        add = place - 1
+        while add > 1 and (move := re.fullmatch(rf'mov {REGISTER},({REGISTER})', self.instructions[add].text)) and move[1] != to[1]:
+            add -= 1
+        if add < 2:
+            return False
+        start, read = self.instructions[add - 2 : add]
+        if not (added := re.fullmatch(rf'add ({REGISTER}),{to[1]}', self.instructions[add].text)) or added[1] == to[1]:
+            return False
+        return (
+            start.text == f'lea 0x0(%rip),{added[1]}'
+            and start.leads_to == '.rodata.' + self.name
+            and bool(re.fullmatch(rf'movslq \({added[1]},{REGISTER},4\),{to[1]}', read.text))
+            and not any(add - 1 <= entered <= place for entered in self.jumped_to())
+        )
+
+    def jumped_to(self):
+        """Where jumps inside the function lead."""
+        for instruction in self.instructions:
+            if instruction.operation.startswith('j') and (to := re.match(r'([0-9a-f]+) <', instruction.operands)):
+                yield self.places.get(int(to[1], 16), -1)
+        yield from self.table_places()
 
     def step(self, place, depth):
         if place == len(self.instructions):
@@ -202,7 +214,7 @@ class Way:
 
     def jump(self, place, instruction, depth):
         if instruction.operands.startswith('*'):
-            if not jumps_by_table(self.instructions, place) or not self.function.table:
+            if not self.function.table or not self.jumps_by_table(place):
                 raise Refused(f'{self.name}: jumps through a pointer')
             return list(self.table_places())
         to = self.target(instruction)

@@ -78,6 +78,29 @@ LOCAL(other)
     .section .rodata.pebrassola_case, "a", @progbits
 .Ltable:
     .long .Lby_table - .Ltable
+#elif defined START_OF_NO_TABLE
+    lea .Ltable(%rip), %rcx
+    movslq (%rsi, %rax, 4), %rax
+    add %rsi, %rax
+    jmp *%rax
+.Lby_table:
+    ret
+    .section .rodata.pebrassola_case, "a", @progbits
+.Ltable:
+    .long .Lby_table - .Ltable
+#elif defined TABLE_PAST_A_TABLE
+    lea .Ltable(%rip), %rcx
+    movslq (%rcx, %rax, 4), %rax
+    add %rcx, %rax
+    mov %rsi, %rdx
+.Lpast:
+    jmp *%rax
+.Lby_table:
+    ret
+    .section .rodata.pebrassola_case, "a", @progbits
+.Ltable:
+    .long .Lby_table - .Ltable
+    .long .Lpast - .Ltable
 #elif defined JUMP_PAST_A_TABLE
     test %rdi, %rdi
     je .Lpast

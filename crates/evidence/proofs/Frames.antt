@@ -1,7 +1,7 @@
 -- What a frame does to rows: in the row of its sender the set of its kind takes the frame's ticks, and every other set and every
 -- serial stays. So a property of sets that every insertion keeps is kept by a frame, of both sets of every row.
 -- Assumes nothing.
-use mathlib.Core.Path.{_≡_, refl}
+use mathlib.Core.Path.{_≡_, refl, sym, _∙_}
 use mathlib.Core.Bool.{Bool, true, false, cond}
 use mathlib.Core.List.{List, [], _∷_}
 use Prim.Native.Nat.{ℕ, zero, suc, _<_}
@@ -17,22 +17,22 @@ module _ (w serial kind j : ℕ) (row : Row) where
   -- the row stays, or one of its sets takes the frame's ticks
   credited :
       (P : Row → Type 0) → P row →
-      P (record { serial = row .serial; echo = add w kind (row .echo) j; init = row .init }) →
-      P (record { serial = row .serial; echo = row .echo; init = add w kind (row .init) j }) →
+      (eqb kind ECHO ≡ true → P (record { serial = row .serial; echo = add w kind (row .echo) j; init = row .init })) →
+      (eqb kind ECHO ≡ false → P (record { serial = row .serial; echo = row .echo; init = add w kind (row .init) j })) →
       P (creditOf w serial kind j row)
   unfolding creditOf creditRow
-  credited P same echo init = go (eqb (row .serial) serial) (eqb kind ECHO)
+  credited P same echo init = go (eqb (row .serial) serial) (eqb kind ECHO) refl
     where
       go :
-          (its e : Bool) →
+          (its e : Bool) → eqb kind ECHO ≡ e →
           P (cond its (cond e (record { serial = row .serial; echo = add w kind (row .echo) j; init = row .init })
           (record { serial = row .serial; echo = row .echo; init = add w kind (row .init) j })) row)
-      go false e = same
-      go true true = echo
-      go true false = init
+      go false e q = same
+      go true true q = echo q
+      go true false q = init q
 
   pub serial-credited : creditOf w serial kind j row .serial ≡ row .serial
-  serial-credited = credited (λ r. r .serial ≡ row .serial) refl refl refl
+  serial-credited = credited (λ r. r .serial ≡ row .serial) refl (λ e. refl) (λ e. refl)
 
   -- the set of any kind before and after
   pub set-credited :
@@ -40,7 +40,7 @@ module _ (w serial kind j : ℕ) (row : Row) where
       P (setOf k (creditOf w serial kind j row)) (setOf k row)
   unfolding setOf
   set-credited k P same more =
-      credited (λ r. P (setOf k r) (setOf k row)) (same (setOf k row)) (go-echo (eqb k ECHO)) (go-init (eqb k ECHO))
+      credited (λ r. P (setOf k r) (setOf k row)) (same (setOf k row)) (λ e. go-echo (eqb k ECHO)) (λ e. go-init (eqb k ECHO))
     where
       go-echo : (e : Bool) → P (cond e (add w kind (row .echo) j) (row .init)) (cond e (row .echo) (row .init))
       go-echo true = more (row .echo)
@@ -49,6 +49,21 @@ module _ (w serial kind j : ℕ) (row : Row) where
       go-init : (e : Bool) → P (cond e (row .echo) (add w kind (row .init) j)) (cond e (row .echo) (row .init))
       go-init true = same (row .echo)
       go-init false = more (row .init)
+
+  -- a set of the other kind stays
+  pub set-other : (k : ℕ) → (eqb kind ECHO ≡ eqb k ECHO → ⊥) → setOf k (creditOf w serial kind j row) ≡ setOf k row
+  unfolding setOf
+  set-other k n =
+      credited (λ r. setOf k r ≡ setOf k row) refl (λ e. go-echo (eqb k ECHO) (λ f. n (e ∙ sym f)))
+      (λ e. go-init (eqb k ECHO) (λ f. n (e ∙ sym f)))
+    where
+      go-echo : (e : Bool) → (e ≡ true → ⊥) → cond e (add w kind (row .echo) j) (row .init) ≡ cond e (row .echo) (row .init)
+      go-echo true other = absurd (other refl)
+      go-echo false other = refl
+
+      go-init : (e : Bool) → (e ≡ false → ⊥) → cond e (row .echo) (add w kind (row .init) j) ≡ cond e (row .echo) (row .init)
+      go-init true other = refl
+      go-init false other = absurd (other refl)
 
 -- ---- every row
 

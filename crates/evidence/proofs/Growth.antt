@@ -19,7 +19,7 @@ use Rattle.sets.proofs.Members.{proper-facts, proper-test}
 use Rattle.evidence.specs.Holders.{holders}
 use Rattle.evidence.specs.Rows.{Row, setOf, creditRow, creditOf, credit, properSet, properRows}
 use Rattle.evidence.specs.Serials.{serialsIn}
-use Rattle.evidence.proofs.Frames.{serial-credited, set-credited, Every, Both, both-any, credit-keeps}
+use Rattle.evidence.proofs.Frames.{serial-credited, set-credited, set-other, Every, Both, both-any, credit-keeps}
 
 -- ---- the ticks that a frame adds lie at most two below its own
 
@@ -107,32 +107,14 @@ holders-more w serial kind j k u (row ∷ rows) = go (eqb (row .serial) serial) 
     go true ih = omega (arith, holds-le w (setOf k (creditRow w kind j row)) u)
     go false ih = omega arith
 
--- sets of the other kind stay
-set-other :
-    (w serial kind j k : ℕ) (row : Row) → (eqb kind ECHO ≡ eqb k ECHO → ⊥) → setOf k (creditOf w serial kind j row) ≡ setOf k row
-unfolding setOf creditOf creditRow
-set-other w serial kind j k row n = go (eqb (row .serial) serial) (eqb kind ECHO) (eqb k ECHO) n
-  where
-    after : Bool → Bool → Row
-    after its e =
-        cond its (cond e (record { serial = row .serial; echo = add w kind (row .echo) j; init = row .init })
-        (record { serial = row .serial; echo = row .echo; init = add w kind (row .init) j })) row
-
-    go : (its e a : Bool) → (e ≡ a → ⊥) → cond a (after its e .echo) (after its e .init) ≡ cond a (row .echo) (row .init)
-    go false e a n = refl
-    go true true true n = absurd (n refl)
-    go true true false n = refl
-    go true false true n = refl
-    go true false false n = absurd (n refl)
-
--- and so no tick of the other kind gains or loses a holder
+-- no tick of the other kind gains or loses a holder
 pub holders-other :
     (w serial kind j k u : ℕ) (rows : List Row) → (eqb kind ECHO ≡ eqb k ECHO → ⊥) →
     holders w k u (credit w serial kind j rows) ≡ holders w k u rows
 unfolding holders credit
 holders-other w serial kind j k u [] n = refl
 holders-other w serial kind j k u (row ∷ rows) n =
-    ap₂ (λ (s : Held) (m : ℕ). holds w s u + m) (set-other w serial kind j k row n) (holders-other w serial kind j k u rows n)
+    ap₂ (λ (s : Held) (m : ℕ). holds w s u + m) (set-other w serial kind j row k n) (holders-other w serial kind j k u rows n)
 
 pub serials-credited :
     (w serial kind j : ℕ) (rows : List Row) →

@@ -5,7 +5,7 @@ use mathlib.Core.Path.{_≡_, refl, sym, ap, _∙_}
 use mathlib.Core.Bool.{Bool, true, false, cond}
 use mathlib.Core.List.{List}
 use Prim.Native.Nat.{ℕ}
-use borrow.Author.Tests.{eq-eqb, ne-eqb}
+use borrow.Author.Tests.{eqb-true, eq-eqb, ne-eqb}
 use lib.ListN.{length}
 use lib.Dec.{eqb}
 use Rattle.fields.specs.Field.{field}
@@ -26,17 +26,24 @@ module _ (number : ℕ) (image out : List ℕ) (done : Outcome) where
   undone : (number ≡ 0 → ⊥) → outcome number image out done ≡ refused number image out
   undone n = ap (λ (t : Bool). cond t done (refused number image out)) (ne-eqb number 0 n)
 
-  -- what is true of what is done and of every refusal is true of the outcome
+  -- what is true of what is done, where the number is 0, and of every refusal is true of the outcome
+  pub any-outcome :
+      (Holds : Outcome → Type 0)
+      → (number ≡ 0 → Holds done)
+      → ((n : ℕ) → Holds (refused n image out))
+      → Holds (outcome number image out done)
+  any-outcome Holds taken other = go (eqb number 0) refl
+    where
+      go : (t : Bool) → eqb number 0 ≡ t → Holds (cond t done (refused number image out))
+      go true e = taken (eqb-true number 0 e)
+      go false e = other number
+
   pub either-way :
       (Holds : Outcome → Type 0)
       → Holds done
       → ((n : ℕ) → Holds (refused n image out))
       → Holds (outcome number image out done)
-  either-way Holds taken other = go (eqb number 0)
-    where
-      go : (t : Bool) → Holds (cond t done (refused number image out))
-      go true = taken
-      go false = other number
+  either-way Holds taken other = any-outcome Holds (λ e. taken) other
 
 -- ---- boot
 

@@ -23,8 +23,9 @@ use Rattle.evidence.proofs.Encoded.{SetFits, RowsFit, rows-fit, credit-fits, le
 use Rattle.node.specs.After.{Begins, Follows}
 use Rattle.node.specs.Calls.{bootNumber, freshState, deliverNumber, deliveryOf, imageAfter}
 use Rattle.rules.specs.Delivery.{State, Delivered, settled, delivered}
-use Rattle.rules.specs.Describe.{mostFirings, firingsAlone, firingsTogether, recordsAlone, recordsTogether, freshRows}
+use Rattle.rules.specs.Describe.{mostFirings, freshRows}
 use Rattle.rules.specs.Rules.{settle}
+use Rattle.rules.proofs.AtRest.{firingsAlone, firingsTogether, recordsAlone, recordsTogether}
 use Rattle.node.specs.Image.{Layout, layout, headerSize, nodeOf, rowsOf, stateOf, soundImage, putState}
 use Rattle.rules.specs.Clock.{Ordered, Below}
 use Rattle.node.proofs.Fresh.{fresh-lines, fresh-sound}

@@ -15,9 +15,10 @@ use Rattle.evidence.specs.Rows.{Row}
 use Rattle.evidence.specs.Serials.{serialsIn}
 use Rattle.evidence.proofs.Growth.{credit-kept, serials-credited}
 use Rattle.rules.specs.Delivery.{State, credited, settled, delivered}
-use Rattle.rules.specs.Describe.{mostFirings, firingsAlone, firingsTogether, recordsAlone, recordsTogether}
+use Rattle.rules.specs.Describe.{mostFirings}
 use Rattle.rules.specs.Rules.{firstRule, settle}
 use Rattle.rules.specs.declared.node.Rule.the-variants.{Rest}
+use Rattle.rules.proofs.AtRest.{firingsAlone, firingsTogether, recordsAlone, recordsTogether}
 use Rattle.rules.proofs.AtRest.{delivered-rests, delivered-firings, counter-never-decides}
 use Rattle.rules.specs.Clock.{Ordered, Below}
 use Rattle.rules.proofs.Clock.{delivered-ordered}

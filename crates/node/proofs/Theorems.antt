@@ -1,8 +1,9 @@
 -- WHERE A READER STARTS. The customer's three demands about boot, deliver and read, one block for each call, at the layout and the last
 -- tick in service. What the words of a statement mean is in specs/: `booted`, `deliverOutcome` and `reading` in Calls, the rows of the
 -- table of numbers in Table, what a call leaves in After, what was heard in Heard, what was sent and taken in Traffic, a truck's whole
--- life in Runs; who answers whom in rules' Answering. That the code gives just these outcomes, for every input, is the contract of each
--- call (src/calls.rt). The proofs are short here and stand in the files named.
+-- life in Runs; in specs/ of rules `delivered` and `settled` in Delivery, `settle` in Rules, `mostFirings` and `room` in Describe, who
+-- answers whom in Answering. That the code gives just these outcomes, for every input, is the contract of each call (src/calls.rt). The
+-- proofs are short here and stand in the files named.
 -- Assumes nothing.
 use mathlib.Core.Path.{_≡_, refl, sym, ap, _∙_, subst}
 use mathlib.Core.Bool.{true}
@@ -50,7 +51,7 @@ use Rattle.node.specs.declared.calls.Answer.{Answer}
 use Rattle.node.specs.declared.calls.Reading.{Reading}
 use Rattle.node.proofs.Images.{state-again}
 use Rattle.node.proofs.Conditions.{sound-says}
-use Rattle.node.proofs.Fired.{records-for-firings, few-alone, few-together}
+use Rattle.node.proofs.Fired.{none-fired, records-for-firings, few-always, few-together}
 use Rattle.node.proofs.Heard.{held-is-heard, held-same}
 use Rattle.node.proofs.Kept.{boot-lengths, boot-behind-image, boot-behind-records}
 use Rattle.node.proofs.Kept.{deliver-lengths, deliver-behind-image, deliver-behind-records, deliver-only}
@@ -74,7 +75,7 @@ module _ (form image out : List ℕ) where
   pub boot-numbers : Says (boots .number) (bootChecks layout form image out)
   boot-numbers = boot-says layout form image out
 
-  -- Demand 1. A refusal reports no records and changes no byte of image or output
+  -- Demand 1. A refusal reports no records and no firings, and changes no byte of image or output
   pub boot-refusal : (boots .number ≡ 0 → ⊥) → boots ≡ refused (boots .number) image out
   boot-refusal n =
       let told = boot-told layout form image out in
@@ -95,6 +96,10 @@ module _ (form image out : List ℕ) where
   boot-sends ok =
       let done = boot-done layout form image out (sym (boot-told layout form image out) ∙ ok) in
       (ap (λ (o : Outcome). o .records) done, ap (λ (o : Outcome). o .out) done)
+
+  -- No rule fires at boot (02, A6)
+  pub boot-fires-none : boots .fired ≡ 0
+  boot-fires-none = none-fired layout form image out
 
   -- No buffer changes its length; bytes behind the image's size stay, and bytes behind the records
   pub boot-keeps-lengths : (length (boots .image) ≡ length image) × (length (boots .out) ≡ length out)
@@ -120,7 +125,7 @@ module _ (image : List ℕ) (port : ℕ) (frame out : List ℕ) where
   pub deliver-numbers : Says (delivers .number) (deliverChecks layout lastTick image port frame out)
   deliver-numbers = deliver-says layout lastTick image port frame out
 
-  -- Demand 1. A refusal reports no records and changes no byte of image or output
+  -- Demand 1. A refusal reports no records and no firings, and changes no byte of image or output
   pub deliver-refusal : (delivers .number ≡ 0 → ⊥) → delivers ≡ refused (delivers .number) image out
   deliver-refusal n =
       let told = deliver-told layout lastTick image port frame out in
@@ -191,13 +196,13 @@ module _ (image : List ℕ) (port : ℕ) (frame out : List ℕ) where
 
   -- ---- How many rules fire (02, A6)
 
-  -- The figure is the number of firings of the step
+  -- The figure is the number of firings of the step, which are those of `settled`
   pub fired-is-counted :
       delivers .number ≡ 0
       → delivers .fired ≡ step .firings
   fired-is-counted ok = ap (λ (o : Outcome). o .fired) (done ok)
 
-  -- The rules fire until none can: with more than 15 firings allowed the step would be the same
+  -- The rules fire until none can: with 15 allowed or more they leave the same node, send the same records and fire as often
   pub fired-until-none :
       Bytes image
       → delivers .number ≡ 0
@@ -212,7 +217,7 @@ module _ (image : List ℕ) (port : ℕ) (frame out : List ℕ) where
   pub fired-as-allowed :
       Bytes image
       → delivers .fired ≤ mostFirings
-  fired-as-allowed bytes = omega (arith, few-alone layout lastTick image port frame out in-service (lit< tt) bytes)
+  fired-as-allowed bytes = omega (arith, few-always layout lastTick image port frame out in-service (lit< tt) bytes)
 
   -- and so 192 bytes never run out: each sends one record at most, and one more may be the answer
   pub records-for-the-fired : delivers .records ≤ delivers .fired + 1
@@ -227,7 +232,7 @@ module _ (image : List ℕ) (port : ℕ) (frame out : List ℕ) where
   pub fired-at-most :
       Bytes image
       → (delivers .fired ≤ 7) × (delivers .records ≤ 7)
-  fired-at-most = few-alone layout lastTick image port frame out in-service (lit< tt)
+  fired-at-most = few-always layout lastTick image port frame out in-service (lit< tt)
 
   -- With two controllers and more at most 4 fire, and at most 5 records are sent, an answer among them; attained there too
   pub fired-at-most-together :

@@ -1,8 +1,9 @@
 -- The counter of `settle` never decides: a delivery to a node at rest comes to rest within 7 firings, and within 4 where n ≥ 2.
--- On rows at rest no tick above k + 1 has f + 1 holders, and a frame gives one holder more to at most three ticks j, j - 1, j - 2, of
--- its own kind alone. So at k an echo may be sent, and then R3, R4 or R5 moves the clock on, once: after that no jump and no wake is
--- left, and R3 and echoes take turns up to the first tick that n - f do not hold. That tick is near: k + 2 after R3 and l after R4
--- where n ≥ 2, since f + 1 < n - f there, and one further for a node alone.
+-- On rows at rest no tick above k + 1 has f + 1 holders of its echo, and a frame gives one holder more to at most three ticks j, j - 1,
+-- j - 2, of its own kind alone. So at k an echo may be sent, and then R3, R4 or R5 fires, once: after that no jump and no wake is left,
+-- and R3 and echoes take turns up to a tick that n - f do not hold. That tick is near. After R3 it is k + 2 and after R4 it is l where
+-- n ≥ 2, since f + 1 < n - f there, and one further for a node alone; after R5 it is k where that stays, else the tick behind the new
+-- one. And where n ≥ 2 and echo k is unsent R3 can't fire at k: R2 could not, so at most f held k, and now at most f + 1.
 -- Assumes nothing.
 use mathlib.Core.Path.{_≡_, refl, sym, ap, _∙_, subst}
 use mathlib.Core.Bool.{Bool, true, false, cond, _&&_, true≢false, false≢true, and-eq-true-iff}
@@ -21,13 +22,31 @@ use Rattle.evidence.specs.Serials.{serialsIn}
 use Rattle.evidence.proofs.Greatest.{greatest-held, greatest-most, greatest-none, none-few, few-none, none-higher}
 use Rattle.evidence.proofs.Growth.{added-near, holders-less, holders-more, holders-other}
 use Rattle.rules.specs.Delivery.{State, credited, settled, delivered}
-use Rattle.rules.specs.Describe.{mostFirings, firingsAlone, firingsTogether}
+use Rattle.rules.specs.Describe.{mostFirings}
 use Rattle.rules.specs.Rules.{jumpTo, wakeAt, firstRule, atRest, clocked, fired, settle}
 use Rattle.rules.specs.declared.node.Node.{Node}
 use Rattle.rules.specs.declared.node.Rule.{Rule}
 use Rattle.rules.specs.declared.node.Rule.the-variants.{Rest, Echo, Tick, Jump, Wake}
 use Rattle.rules.proofs.Firing.{Told, told, wake-told, settle-further}
 use Rattle.rules.proofs.Within.{RestsIn, TicksAt, rests-sooner, rests-by, quiet-rests}
+
+-- ---- the figures
+
+-- how many rules fire at most: of a node alone on its roster, which is the most of any node, and of one of two or more
+abbrev pub firingsAlone : ℕ
+firingsAlone = 7
+
+abbrev pub firingsTogether : ℕ
+firingsTogether = 4
+
+-- and how many records are sent: a node alone has nobody to answer
+abbrev pub recordsAlone : ℕ
+recordsAlone = firingsAlone
+
+abbrev pub recordsTogether : ℕ
+recordsTogether = firingsTogether + 1
+
+-- ---- one delivery to a node at rest
 
 -- after the greatest jump there is none
 jump-done : (w m low l : ℕ) (rows : List Row) → greatest w ECHO m low rows ≡ suc l → greatest w ECHO m (l - 1 + 2) rows ≡ 0
@@ -36,8 +55,6 @@ jump-done w m low l rows e =
   where
     below : (t : ℕ) → l - 1 + 2 ≤ t → low ≤ t
     below t p = let h = greatest-held w ECHO m low rows l e in omega (arith, h .0)
-
--- ---- one delivery to a node at rest
 
 module _
     (w last : ℕ) (s : State) (port kind j : ℕ) (wide : 0 < w) (many : 3 * s .node .faults + 1 ≤ s .node .lines)
@@ -293,20 +310,20 @@ module _
         RestsIn w last (credited w s port frame) (3 * further + 4) (s .node)
     within = comes-to-rest w last s port (frame .kind) (frame .tick) wide many once rest
 
-    alone : RestsIn w last (credited w s port frame) firingsAlone (s .node)
-    alone = within 1 (stops-alone w last s port (frame .kind) (frame .tick) wide many once rest)
+    soon : RestsIn w last (credited w s port frame) firingsAlone (s .node)
+    soon = within 1 (stops-alone w last s port (frame .kind) (frame .tick) wide many once rest)
 
     -- no rule can fire after it
     pub delivered-rests : let d = delivered w last s port frame in firstRule w last (d .state .rows) (d .state .node) ≡ Rest
     unfolding delivered settled
-    delivered-rests = alone mostFirings (omega arith) .0
+    delivered-rests = soon mostFirings (omega arith) .0
 
     -- and few did
     pub delivered-firings :
         let d = delivered w last s port frame in
         (d .firings ≤ firingsAlone) × (2 ≤ s .node .lines → d .firings ≤ firingsTogether)
     unfolding delivered settled
-    delivered-firings = (alone mostFirings (omega arith) .1, λ others. within 0 (together others) mostFirings (omega arith) .1)
+    delivered-firings = (soon mostFirings (omega arith) .1, λ others. within 0 (together others) mostFirings (omega arith) .1)
       where
         together : 2 ≤ s .node .lines → Stops w last s port (frame .kind) (frame .tick) wide many once rest 0
         together = stops-together w last s port (frame .kind) (frame .tick) wide many once rest
@@ -319,4 +336,4 @@ module _
     unfolding settled
     counter-never-decides c q =
         ap (λ (n : ℕ). settle w last (credited w s port frame) n (s .node)) (omega arith)
-        ∙ settle-further w last (credited w s port frame) mostFirings (s .node) (alone mostFirings (omega arith) .0) (c - mostFirings)
+        ∙ settle-further w last (credited w s port frame) mostFirings (s .node) (soon mostFirings (omega arith) .0) (c - mostFirings)

@@ -19,20 +19,6 @@ lastTick = 4000000000
 abbrev pub mostFirings : ℕ
 mostFirings = 15
 
--- how many do at most, which is proved and attained: by a node alone on its roster, and by one of two or more
-abbrev pub firingsAlone : ℕ
-firingsAlone = 7
-
-abbrev pub firingsTogether : ℕ
-firingsTogether = 4
-
--- and the records sent: a node alone has nobody to answer
-abbrev pub recordsAlone : ℕ
-recordsAlone = firingsAlone
-
-abbrev pub recordsTogether : ℕ
-recordsTogether = firingsTogether + 1
-
 -- bytes of output: a record for each firing, and the answer
 abbrev pub room : ℕ
 room = (mostFirings + 1) * recordSize

@@ -259,10 +259,9 @@ impl Node {
                     fired,
                 };
             }
-            let said = node.say(rule, out, records);
+            records = node.say(rule, out, records);
             node = node.fire(rule);
             fired += 1;
-            records = said;
         }
         Next {
             node,

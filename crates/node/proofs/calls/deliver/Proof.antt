@@ -185,7 +185,7 @@ returns-3 c =
       d .rows,
       d .bytes,
     )
-    (reports (d .records) (d .fired))
+    (reports (omega (arith, d .records)) (omega (arith, d .fired)))
 
 pub deliver-spec : {M : Type 1} → statement M
 deliver-spec =

@@ -7,7 +7,8 @@ without moving it: they count whether they are written or not.
 
 What this does not cover is refused, with the reason: a function that comes back to itself, a call through a pointer or out of the file,
 a stack pointer that moves by what is no number or stands at two depths at one place, code in no section of its own, a line of the
-listing that is not known. It trusts the compiler in one thing: that an address taken of a local variable is used inside that variable.
+listing that is not known. It trusts the compiler in two things: that an address taken of a local variable is used inside that variable,
+and that a jump by a table reads one of the table's own entries.
 
 usage: bounds.py FILE
 """

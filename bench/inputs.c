@@ -30,7 +30,7 @@ static uint32_t serial(unsigned i)
 
 void make_form(unsigned n, unsigned own, uint8_t *form)
 {
-    put4(form, n << 24 | (n - 1) / 3 << 16 | 8);
+    put4(form, n << 24 | PEBRASSOLA_FULL_FAULTS(n) << 16 | 8);
     put4(form + 4, serial(own));
     for (unsigned i = 0; i < n; i++) put4(form + PEBRASSOLA_FORM_BYTES(i), serial(i));
 }
@@ -96,7 +96,7 @@ void record_run(unsigned n)
 /* where a tick may be held by a row so that at most f rows hold it: by all of a group of f rows, or by f rows in turn */
 static int may_hold(unsigned n, unsigned in_turn, uint32_t tick, unsigned i)
 {
-    return !in_turn || (tick + i) % n < (n - 1) / 3;
+    return !in_turn || (tick + i) % n < PEBRASSOLA_FULL_FAULTS(n);
 }
 
 static void put_dear_set(uint8_t *set, unsigned n, unsigned in_turn, uint32_t top, unsigned i)
@@ -114,7 +114,7 @@ static void put_dear_set(uint8_t *set, unsigned n, unsigned in_turn, uint32_t to
 struct event make_dear(unsigned n, unsigned family, uint8_t *image)
 {
     static const uint32_t gaps[] = {0, 1, 31, 63, 64, 65, 100};
-    unsigned f = (n - 1) / 3, grouped = family & 1, passive = family >> 1 & 1, jumps = family >> 2 & 1;
+    unsigned f = PEBRASSOLA_FULL_FAULTS(n), grouped = family & 1, passive = family >> 1 & 1, jumps = family >> 2 & 1;
     uint32_t gap = gaps[family >> 3], lowest = 1000;
     struct event dear = {serial(0), {jumps ? 2 : 1}};
     boot(n, 0, image);

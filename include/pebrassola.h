@@ -1,5 +1,5 @@
 /*
- * Pebrassola: one node of a fault-tolerant clock for up to 32 controllers, of which up to f may misbehave in any way.
+ * Pebrassola: one node of a fault-tolerant clock for up to 32 controllers, of which fewer than a third may misbehave in any way.
  *
  * Boot, deliver and read run a node. A sheet says which packs are licensed from which tick to which: pack tells whether one is in
  * force at the tick that a node's clock has, and write_sheet makes a sheet.
@@ -40,6 +40,13 @@ extern "C" {
 #define PEBRASSOLA_LAST_TICK 4000000000u
 
 /*
+ * The f that a form of n controllers, 1 to 32, has to state: the most faulty ones that n allows, (n - 1) / 3 rounded down. With a smaller
+ * f a few faulty controllers that the others could have outvoted may move the clock. An image has to state it, too: one that an older
+ * archive booted with a smaller f is refused with 8 for good, and its controller is booted again, with a form that states this f.
+ */
+#define PEBRASSOLA_FULL_FAULTS(n) (((n) - 1u) / 3u)
+
+/*
  * Bytes of a sheet with so many entries, and of an entry. A sheet is the count of entries in 2 bytes, where they stand in 2 (always 4),
  * then the entries: pack number, first tick, end (the first tick that is no longer licensed), 4 bytes each.
  */
@@ -55,7 +62,7 @@ extern "C" {
  * An interrupt that the processor puts on the same stack would overwrite these bytes: interrupts need a stack of their own. Signals of an
  * operating system step over them.
  */
-#define PEBRASSOLA_BOOT_STACK_BYTES 312u
+#define PEBRASSOLA_BOOT_STACK_BYTES 368u
 #define PEBRASSOLA_DELIVER_STACK_BYTES 520u
 #define PEBRASSOLA_READ_STACK_BYTES 392u
 #define PEBRASSOLA_PACK_STACK_BYTES 440u
@@ -75,25 +82,30 @@ extern "C" {
 #define PEBRASSOLA_PROVED_FIRED(n) ((n) < 2 ? 7u : 4u)
 #define PEBRASSOLA_PROVED_RECORDS(n) ((n) < 2 ? 7u : 5u)
 
-/* The number given back; the first that applies, in the order that each call names. */
+/*
+ * The number given back; the first that applies, in the order that each call names. Of a form that is 1, 2, 21, 3, 4, 5, the order in
+ * which they stand here.
+ */
 enum pebrassola_number {
-    PEBRASSOLA_DONE = 0,          /* success */
-    PEBRASSOLA_FORM_LAYOUT = 1,   /* form shorter than 8, offset not 8, or length not 8 + 4n */
-    PEBRASSOLA_FORM_LIMITS = 2,   /* n not 1..32, or n < 3f + 1 */
-    PEBRASSOLA_FORM_ZERO = 3,     /* a serial or the own serial is 0 */
-    PEBRASSOLA_FORM_TWICE = 4,    /* a serial stands twice */
-    PEBRASSOLA_FORM_OWN = 5,      /* own serial not in the list */
-    PEBRASSOLA_IMAGE_ROOM = 6,    /* image buffer shorter than 32 + 28n */
-    PEBRASSOLA_OUT_ROOM = 7,      /* output shorter than 192 bytes; for write_sheet, than the sheet */
-    PEBRASSOLA_IMAGE = 8,         /* image buffer shorter than 32 or than its stated size, or image not sound */
-    PEBRASSOLA_PORT = 9,          /* port serial not in the roster */
-    PEBRASSOLA_FRAME = 10,        /* frame not 8 long, kind not 1 or 2, flag not 0 for init or above 1 for echo, or bytes 2..3 not zero */
-    PEBRASSOLA_FRAME_TICK = 11,   /* tick above the last tick */
-    PEBRASSOLA_PASSIVE = 12,      /* the node is passive: it has no clock yet */
-    PEBRASSOLA_SHEET_LAYOUT = 14, /* sheet shorter than 4, offset not 4, more than 200 entries, or length not 4 + 12 x count; for
-                                     write_sheet, entries whose length is no multiple of 12, or more than 200 */
-    PEBRASSOLA_SHEET_PACK = 15,   /* a pack number of the sheet is 0 or stands twice */
-    PEBRASSOLA_SHEET_TICKS = 16   /* an entry's first tick is above its end */
+    PEBRASSOLA_DONE = 0,              /* success */
+    PEBRASSOLA_FORM_LAYOUT = 1,       /* form shorter than 8, offset not 8, or length not 8 + 4n */
+    PEBRASSOLA_FORM_LIMITS = 2,       /* n not 1..32, or f greater than n allows: n < 3f + 1 */
+    PEBRASSOLA_FORM_UNDERSTATED = 21, /* f less than n allows: not (n - 1) / 3 rounded down */
+    PEBRASSOLA_FORM_ZERO = 3,         /* a serial or the own serial is 0 */
+    PEBRASSOLA_FORM_TWICE = 4,        /* a serial stands twice */
+    PEBRASSOLA_FORM_OWN = 5,          /* own serial not in the list */
+    PEBRASSOLA_IMAGE_ROOM = 6,        /* image buffer shorter than 32 + 28n */
+    PEBRASSOLA_OUT_ROOM = 7,          /* output shorter than 192 bytes; for write_sheet, than the sheet */
+    PEBRASSOLA_IMAGE = 8,             /* image buffer shorter than 32 or than its stated size, or image not sound */
+    PEBRASSOLA_PORT = 9,              /* port serial not in the roster */
+    PEBRASSOLA_FRAME = 10,            /* frame not 8 long, kind not 1 or 2, flag not 0 for init or above 1 for echo, or bytes 2..3 not
+                                         zero */
+    PEBRASSOLA_FRAME_TICK = 11,       /* tick above the last tick */
+    PEBRASSOLA_PASSIVE = 12,          /* the node is passive: it has no clock yet */
+    PEBRASSOLA_SHEET_LAYOUT = 14,     /* sheet shorter than 4, offset not 4, more than 200 entries, or length not 4 + 12 x count; for
+                                         write_sheet, entries whose length is no multiple of 12, or more than 200 */
+    PEBRASSOLA_SHEET_PACK = 15,       /* a pack number of the sheet is 0 or stands twice */
+    PEBRASSOLA_SHEET_TICKS = 16       /* an entry's first tick is above its end */
 };
 
 /*
@@ -133,7 +145,7 @@ enum pebrassola_licences {
 
 /*
  * Makes a fresh node of a roster form in the image buffer: clock 0, passive, nothing held. Puts one record into the output: echo 0
- * to all, a broadcast. Gives 1 to 7 in ascending order. Bytes behind the image and behind the record stay.
+ * to all, a broadcast. Gives 1, 2, 21, 3, 4, 5, 6, 7 in this order. Bytes behind the image and behind the record stay.
  */
 struct pebrassola_answer pebrassola_boot(const uint8_t *form, size_t form_length, uint8_t *image, size_t image_length,
                                          uint8_t *out, size_t out_length);

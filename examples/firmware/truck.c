@@ -65,7 +65,7 @@ static void send_records(unsigned from, const uint8_t *out, uint32_t records)
 
 static int power_up(unsigned i)
 {
-    uint8_t form[PEBRASSOLA_FORM_BYTES(NODES)] = {NODES, 1, 0, 8}, out[PEBRASSOLA_OUT_BYTES];
+    uint8_t form[PEBRASSOLA_FORM_BYTES(NODES)] = {NODES, PEBRASSOLA_FULL_FAULTS(NODES), 0, 8}, out[PEBRASSOLA_OUT_BYTES];
     struct pebrassola_answer a;
     put_word(form + 4, serials[i]);
     for (unsigned line = 0; line < NODES; line++) put_word(form + 8 + 4 * line, serials[line]);

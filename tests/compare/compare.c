@@ -65,10 +65,11 @@ int main(void)
            "more\n",
            nodes.alone.fired, PEBRASSOLA_PROVED_FIRED(1), nodes.alone.records, PEBRASSOLA_PROVED_RECORDS(1), nodes.together.fired,
            PEBRASSOLA_PROVED_FIRED(2), nodes.together.records, PEBRASSOLA_PROVED_RECORDS(2));
-    printf("compare: %lu calls (%lu random sound images; echo 0 of another %lu times as a broadcast, %lu times as an answer; %lu calls of "
-           "sheets, each outcome %lu times or more), %lu differences\n",
-           calls, nodes.sound_images, nodes.zeros[0], nodes.zeros[1], sheets.all, sheets.rarest, differences);
+    printf("compare: %lu calls (%lu random sound images; echo 0 of another %lu times as a broadcast, %lu times as an answer; each number "
+           "%lu times or more; %lu calls of sheets, each outcome %lu times or more), %lu differences\n",
+           calls, nodes.sound_images, nodes.zeros[0], nodes.zeros[1], nodes.rarest_number, sheets.all, sheets.rarest, differences);
     if (calls < 600000 || nodes.sound_images < 1000 || nodes.zeros[0] < 1000 || nodes.zeros[1] < 1000) return 1;
+    if (nodes.rarest_number < 500) return 1;
     if (!reached(nodes.alone, 1) || !reached(nodes.together, 2)) return 1;
     return differences != 0 || sheets.all < 200000 || sheets.rarest < 1000;
 }

@@ -27,16 +27,20 @@ struct figures {
 };
 
 struct node_calls {
-    unsigned long sound_images;       /* random images that were sound */
-    unsigned long zeros[2];           /* how often echo 0 of another serial was taken, by its flag: as a broadcast, as an answer */
+    unsigned long sound_images;     /* random images that were sound */
+    unsigned long zeros[2];         /* how often echo 0 of another serial was taken, by its flag: as a broadcast, as an answer */
+    unsigned long rarest_number;    /* how often the number came that came least, of all that the three calls can give */
     struct figures alone, together; /* where n is 1, and where it is more */
 };
 
 /* every comparison of boot, deliver and read */
 struct node_calls compare_nodes(void);
 
+/* an f for n controllers: mostly the full one, else one less or more, or any */
+unsigned some_faults(unsigned n);
+
 /* boots a node of n controllers in any order, with its form, and lets it take so many frames; gives the image's size */
-size_t live(uint8_t *form, uint8_t *kept, unsigned n, unsigned faults, unsigned frames);
+size_t live(uint8_t *form, uint8_t *kept, unsigned n, unsigned frames);
 
 /* writes mode, k and last echo over those of an image */
 void set_clock(uint8_t *kept, unsigned mode, uint32_t k, uint32_t last_echo);

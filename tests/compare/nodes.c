@@ -1,7 +1,8 @@
 /*
  * Compares boot, deliver and read with the model: long valid runs with faulty senders, random images, every single-bit damage of sound
- * images, truncated and over-long buffers, empty ones with a pointer that may not be read, forms, frames and ports of all kinds, and the
- * deliveries that bring most. No delivery may fire more rules or send more records than the header says.
+ * images, every f in forms and images, truncated and over-long buffers, empty ones with a pointer that may not be read, forms, frames and
+ * ports of all kinds, and the deliveries that bring most. No delivery may fire more rules or send more records than the header says, and
+ * an f that is not the full one gives 2 or 21 in a form and 8 in an image.
  */
 #include <string.h>
 
@@ -11,7 +12,11 @@
 #include "pebrassola.h"
 #include "words.h"
 
+enum { BOOT, DELIVER, READ, CALLS, NUMBERS = 22 };
+
+static const char *const names[CALLS] = {"boot", "deliver", "read"};
 static struct node_calls counted;
+static unsigned long came[CALLS][NUMBERS]; /* how often each number came from each call */
 
 /* ---- the three calls, on copies; the image that the model leaves is kept */
 
@@ -24,9 +29,10 @@ static void lend_all(const uint8_t *given, size_t length, const uint8_t *kept, s
     lend_room(&out, o_length);
 }
 
-static uint32_t compare(const char *call, uint32_t number, uint32_t value, uint32_t fired, struct model_result m, uint8_t *kept)
+static uint32_t compare(unsigned call, uint32_t number, uint32_t value, uint32_t fired, struct model_result m, uint8_t *kept)
 {
-    check(call, number == m.number && value == m.value && fired == m.fired && same(&image) && same(&out) && same(&in));
+    came[call][m.number]++;
+    check(names[call], number == m.number && value == m.value && fired == m.fired && same(&image) && same(&out) && same(&in));
     if (image.plain.length) memcpy(kept, body(&image.plain), image.plain.length);
     return m.number;
 }
@@ -48,7 +54,7 @@ static uint32_t boot(const uint8_t *f, size_t f_length, uint8_t *kept, size_t i_
     lend_all(f, f_length, kept, i_length, o_length);
     r = pebrassola_boot(place(&in.proved), f_length, place(&image.proved), i_length, place(&out.proved), o_length);
     m = model_boot(place(&in.plain), f_length, place(&image.plain), i_length, place(&out.plain), o_length);
-    return compare("boot", r.number, r.records, r.fired, m, kept);
+    return compare(BOOT, r.number, r.records, r.fired, m, kept);
 }
 
 static uint32_t deliver(uint8_t *kept, size_t i_length, uint32_t port, const uint8_t *fr, size_t fr_length, size_t o_length)
@@ -59,7 +65,7 @@ static uint32_t deliver(uint8_t *kept, size_t i_length, uint32_t port, const uin
     lend_all(fr, fr_length, kept, i_length, o_length);
     r = pebrassola_deliver(place(&image.proved), i_length, port, place(&in.proved), fr_length, place(&out.proved), o_length);
     m = model_deliver(place(&image.plain), i_length, port, place(&in.plain), fr_length, place(&out.plain), o_length);
-    number = compare("deliver", r.number, r.records, r.fired, m, kept);
+    number = compare(DELIVER, r.number, r.records, r.fired, m, kept);
     if (number == 0) hold_figures(r, kept[0]);
     if (number == 0 && fr[0] == 2 && get4(fr + 4) == 0 && port != get4(kept + 4)) counted.zeros[fr[1]]++;
     return number;
@@ -72,10 +78,22 @@ static uint32_t read_clock(uint8_t *kept, size_t i_length)
     lend_all(NULL, 0, kept, i_length, 0);
     r = pebrassola_read(place(&image.proved), i_length);
     m = model_read(place(&image.plain), i_length);
-    return compare("read", r.number, r.clock, 0, m, kept);
+    return compare(READ, r.number, r.clock, 0, m, kept);
 }
 
 /* ---- what is fed */
+
+unsigned some_faults(unsigned n)
+{
+    unsigned full = PEBRASSOLA_FULL_FAULTS(n);
+    switch (any(8)) {
+    case 0: return full ? full - 1 : 0;
+    case 1: return any(full + 1);
+    case 2: return full + 1;
+    case 3: return any(256);
+    default: return full;
+    }
+}
 
 static size_t make_form(uint8_t *f, unsigned n, unsigned faults)
 {
@@ -115,10 +133,10 @@ static void make_frame(uint8_t *b, const uint8_t *kept)
     if (any(50) == 0) change_byte(b, 4);
 }
 
-size_t live(uint8_t *form, uint8_t *kept, unsigned n, unsigned faults, unsigned frames)
+size_t live(uint8_t *form, uint8_t *kept, unsigned n, unsigned frames)
 {
     uint8_t fr[16];
-    size_t size = 32 + 28 * (size_t)n, f_length = make_form(form, n, faults);
+    size_t size = 32 + 28 * (size_t)n, f_length = make_form(form, n, PEBRASSOLA_FULL_FAULTS(n));
     memset(kept, 0, size);
     boot(form, f_length, kept, size, 192);
     for (unsigned s = 0; s < frames; s++) {
@@ -135,10 +153,10 @@ void set_clock(uint8_t *kept, unsigned mode, uint32_t k, uint32_t last_echo)
     put4(kept + 12, last_echo);
 }
 
-static void run(unsigned n, unsigned faults, unsigned steps)
+static void run(unsigned n, unsigned steps)
 {
     uint8_t f[MOST], kept[MOST], fr[16];
-    size_t size = 32 + 28 * (size_t)n + any(4), f_length = make_form(f, n, faults);
+    size_t size = 32 + 28 * (size_t)n + any(4), f_length = make_form(f, n, PEBRASSOLA_FULL_FAULTS(n));
     for (size_t i = 0; i < size; i++) kept[i] = (uint8_t)any(256);
     boot(f, f_length, kept, size, 192 + any(9));
     for (unsigned s = 0; s < steps; s++) {
@@ -165,18 +183,19 @@ static void make_set(uint8_t *b, uint32_t base)
     put4(b + 8, (uint32_t)mask);
 }
 
-/* an image of right layout with any sets; some are sound, and those are delivered to */
-static void random_image(unsigned n, unsigned faults)
+/* an image of right layout with any sets, and sometimes another f than the full one; some are sound, and those are delivered to */
+static void random_image(unsigned n)
 {
     static const uint32_t bases[] = {0, 1, 2, 3, 10, 62, 63, 64, 65, 5000, 3999999999u, 4000000000u};
     uint8_t f[MOST], kept[MOST], fr[16];
-    size_t size = live(f, kept, n, faults, 0);
+    size_t size = live(f, kept, n, 0);
     uint32_t base = bases[any(sizeof bases / sizeof bases[0])], k = base + any(4), last;
     for (unsigned i = 0; i < n; i++)
         for (unsigned kind = 0; kind < 2; kind++) make_set(kept + 36 + 28 * i + 12 * kind, base);
     if (k > 4000000000u && any(20)) k = 4000000000u;
     last = k && any(3) == 0 ? k - 1 : k;
     set_clock(kept, any(4) != 0, k, last);
+    if (any(8) == 0) kept[1] = (uint8_t)some_faults(n);
     if (read_clock(kept, size) != 8) counted.sound_images++;
     for (unsigned s = 0; s < 4; s++) {
         make_frame(fr, kept);
@@ -184,16 +203,19 @@ static void random_image(unsigned n, unsigned faults)
     }
 }
 
-static void damage(unsigned n, unsigned faults, unsigned steps)
+/* a sound image with each bit changed, those of f in byte 1 among them: 8 then, whatever the image holds */
+static void damage(unsigned n, unsigned steps)
 {
     uint8_t f[MOST], kept[MOST] = {0}, hurt[MOST], fr[16];
-    size_t size = live(f, kept, n, faults, steps);
+    size_t size = live(f, kept, n, steps);
     for (size_t bit = 0; bit < 8 * size; bit++) {
+        int may_be_sound = bit / 8 != 1;
         memcpy(hurt, kept, size);
         hurt[bit / 8] ^= (uint8_t)(1 << bit % 8);
-        read_clock(hurt, size);
+        hold("read, a bit of f changed", read_clock(hurt, size) == PEBRASSOLA_IMAGE || may_be_sound);
         make_frame(fr, kept);
-        deliver(hurt, size, get4(f + 8 + 4 * any(n)), fr, 8, 192);
+        hold("deliver, a bit of f changed",
+             deliver(hurt, size, get4(f + 8 + 4 * any(n)), fr, 8, 192) == PEBRASSOLA_IMAGE || may_be_sound);
     }
     for (size_t length = 0; length <= size + 3; length++) {
         memcpy(hurt, kept, size + 4);
@@ -204,12 +226,31 @@ static void damage(unsigned n, unsigned faults, unsigned steps)
     for (size_t length = 0; length <= 12; length++) deliver(kept, size, get4(f + 8), fr, length, 192);
 }
 
+/* every f that a byte can state, in the form of a node that has lived and in its image: one of them alone is taken */
+static void every_faults(unsigned n, unsigned frames)
+{
+    uint8_t f[MOST], kept[MOST], hurt[MOST], fr[16];
+    size_t size = live(f, kept, n, frames), f_length = PEBRASSOLA_FORM_BYTES(n);
+    unsigned full = PEBRASSOLA_FULL_FAULTS(n);
+    for (unsigned faults = 0; faults < 256; faults++) {
+        uint32_t known = faults < full ? PEBRASSOLA_FORM_UNDERSTATED : faults > full ? PEBRASSOLA_FORM_LIMITS : PEBRASSOLA_DONE;
+        f[1] = (uint8_t)faults;
+        memcpy(hurt, kept, size);
+        hold("boot, every f", boot(f, f_length, hurt, size, 192) == known);
+        memcpy(hurt, kept, size);
+        hurt[1] = (uint8_t)faults;
+        hold("read, every f", (read_clock(hurt, size) == PEBRASSOLA_IMAGE) == (faults != full));
+        make_frame(fr, kept);
+        hold("deliver, every f", (deliver(hurt, size, get4(f + 8), fr, 8, 192) == PEBRASSOLA_IMAGE) == (faults != full));
+    }
+}
+
 static void forms(unsigned rounds)
 {
     uint8_t f[MOST], kept[MOST];
     memset(kept, 7, sizeof kept);
     for (unsigned r = 0; r < rounds; r++) {
-        unsigned n = 1 + any(34), faults = any(3) ? any(n) / 3 : any(256), line = any(n);
+        unsigned n = 1 + any(34), faults = some_faults(n), line = any(n);
         size_t length = make_form(f, n, faults), size = 32 + 28 * (size_t)n, room;
         switch (any(8)) {
         case 0: put4(f + 8 + 4 * line, 0); break;
@@ -256,10 +297,10 @@ static void greatest_figures(void)
 }
 
 /* each buffer of each call empty, alone and together with others */
-static void empty_buffers(unsigned n, unsigned faults)
+static void empty_buffers(unsigned n)
 {
     uint8_t f[MOST], kept[MOST], fr[8] = {2};
-    size_t size = 32 + 28 * (size_t)n, f_length = make_form(f, n, faults);
+    size_t size = 32 + 28 * (size_t)n, f_length = make_form(f, n, PEBRASSOLA_FULL_FAULTS(n));
     memset(kept, 7, sizeof kept);
     for (unsigned p = 0; p < NO_PLACES; p++)
         for (unsigned empty = 0; empty < 8; empty++) {
@@ -273,24 +314,37 @@ static void empty_buffers(unsigned n, unsigned faults)
     nowhere = NULL;
 }
 
+static unsigned long rarest_number(void)
+{
+    /* those that each call can give; what is not written is 0, which each can give */
+    static const uint8_t numbers[CALLS][9] = {{0, 1, 2, 21, 3, 4, 5, 6, 7}, {0, 7, 8, 9, 10, 11}, {0, 8, 12}};
+    unsigned long rarest = came[BOOT][0];
+    for (unsigned call = 0; call < CALLS; call++)
+        for (unsigned i = 0; i < sizeof numbers[call]; i++)
+            if (came[call][numbers[call][i]] < rarest) rarest = came[call][numbers[call][i]];
+    return rarest;
+}
+
 struct node_calls compare_nodes(void)
 {
     forms(20000);
-    for (unsigned n = 1; n <= 32; n++)
-        for (unsigned faults = 0; 3 * faults + 1 <= n; faults++) run(n, faults, n == 4 || n == 7 ? 3000 : 600);
+    for (unsigned n = 1; n <= 32; n++) {
+        for (unsigned round = 0; round < 6; round++) run(n, n == 4 || n == 7 ? 1500 : 600);
+        every_faults(n, any(60));
+    }
     for (unsigned round = 0; round < 12; round++) {
-        damage(1, 0, 20 * round);
-        damage(4, 1, 30 * round);
-        damage(4, 0, 30 * round);
+        damage(1, 20 * round);
+        damage(3, 30 * round);
+        damage(4, 30 * round);
+        damage(7, 30 * round);
     }
-    for (unsigned round = 0; round < 40; round++) run(1 + any(32), 0, 300);
-    for (unsigned round = 0; round < 20000; round++) {
-        unsigned n = 1 + any(32);
-        random_image(n, any((n + 2) / 3));
-    }
+    /* where f is 0, one sender is enough for much */
+    for (unsigned round = 0; round < 40; round++) run(1 + any(3), 300);
+    for (unsigned round = 0; round < 20000; round++) random_image(1 + any(32));
     greatest_figures();
-    empty_buffers(1, 0);
-    empty_buffers(4, 1);
-    empty_buffers(32, 10);
+    empty_buffers(1);
+    empty_buffers(4);
+    empty_buffers(32);
+    counted.rarest_number = rarest_number();
     return counted;
 }

@@ -183,20 +183,21 @@ static size_t spoil_sheet(uint8_t *b, unsigned count, size_t length)
 static size_t make_idle(uint8_t *kept, unsigned n, unsigned mode, uint32_t k)
 {
     uint8_t form[MOST];
-    size_t size = live(form, kept, n, any((n + 2) / 3), 0);
+    size_t size = live(form, kept, n, 0);
     set_clock(kept, mode, k, k);
     return size;
 }
 
-/* an idle node or one that has lived, sometimes passive, damaged or cut */
+/* an idle node or one that has lived, sometimes passive, with another f, damaged or cut */
 static size_t make_node(uint8_t *kept)
 {
     uint8_t form[MOST];
     uint32_t k = some_tick(any(1000));
     unsigned n = 1 + any(7);
     size_t size;
-    if (any(32) == 0) size = live(form, kept, n, 0, any(60));
+    if (any(32) == 0) size = live(form, kept, n, any(60));
     else size = make_idle(kept, n, any(8) != 0, k <= last_tick ? k : last_tick);
+    if (any(16) == 0) kept[1] = (uint8_t)some_faults(n);
     if (any(16) == 0) change_byte(kept, (uint32_t)size);
     if (any(16) == 0) size = any((uint32_t)size + 1);
     return size;

@@ -1,7 +1,7 @@
 /*
  * The header against the archive, by answers that the papers settle, or that their rules give by hand, with no model between: W1 to W9 of
- * document 01, a sheet for A1 of document 02, frames and two idle controllers for A2, the deliveries that bring most for A6, and a call
- * for each number.
+ * document 01, a sheet for A1 of document 02, frames and two idle controllers for A2, the deliveries that bring most for A6, forms and
+ * images beside the full f for A7, and a call for each number.
  * The archive puts an answer's fields where its own struct has them, and a C compiler knows only the header's struct: so each field is
  * looked at where its value is known and any other field's is another. Sizes, places and numbers are looked at when this is compiled,
  * unless CALLS_ALONE is defined: then the calls have to notice by themselves. Prints what is wrong and a count; ends with status 1 where
@@ -35,6 +35,14 @@ SETTLED(numbers_of_rooms, PEBRASSOLA_IMAGE_ROOM == 6 && PEBRASSOLA_OUT_ROOM == 7
 SETTLED(numbers_of_images, PEBRASSOLA_IMAGE == 8 && PEBRASSOLA_PASSIVE == 12);
 SETTLED(numbers_of_frames, PEBRASSOLA_PORT == 9 && PEBRASSOLA_FRAME == 10 && PEBRASSOLA_FRAME_TICK == 11);
 
+/* A7, and the full f of some n by hand */
+SETTLED(number_of_understated_forms, PEBRASSOLA_FORM_UNDERSTATED == 21);
+SETTLED(full_faults_of_few, PEBRASSOLA_FULL_FAULTS(1) == 0 && PEBRASSOLA_FULL_FAULTS(3) == 0 && PEBRASSOLA_FULL_FAULTS(4) == 1);
+SETTLED(full_faults, PEBRASSOLA_FULL_FAULTS(6) == 1 && PEBRASSOLA_FULL_FAULTS(7) == 2 && PEBRASSOLA_FULL_FAULTS(32) == 10);
+#if PEBRASSOLA_FULL_FAULTS(7) != 2 || PEBRASSOLA_FULL_FAULTS(PEBRASSOLA_MOST_CONTROLLERS) != 10
+#error "the full f is no number that the preprocessor can compare"
+#endif
+
 /* A1, in the order that it names them */
 SETTLED(numbers_of_sheets, PEBRASSOLA_SHEET_LAYOUT == 14 && PEBRASSOLA_SHEET_PACK == 15 && PEBRASSOLA_SHEET_TICKS == 16);
 SETTLED(licences, PEBRASSOLA_NOT_LICENSED == 0 && PEBRASSOLA_NOT_IN_FORCE == 1 && PEBRASSOLA_IN_FORCE == 2);
@@ -59,8 +67,10 @@ SETTLED(records, PEBRASSOLA_PROVED_RECORDS(1) == 7 && PEBRASSOLA_PROVED_RECORDS(
 /* bytes 0 and 1 of a frame, as one number: kind and flag (A2) */
 enum { INIT = 0x0100, ECHO = 0x0200, ECHO_ANSWER = 0x0201 };
 
-static uint8_t image[144], out[192];
-static size_t size = sizeof image, room = sizeof out; /* how much of the two is lent */
+enum { MOST_IMAGE = 928 };
+
+static uint8_t image[MOST_IMAGE], out[192];
+static size_t size = 144, room = sizeof out; /* how much of the two is lent; the story's nodes have 144 bytes */
 static unsigned answers, wrong;
 
 static void expect(const char *call, uint32_t number, uint32_t value, uint32_t known, uint32_t known_value)
@@ -166,6 +176,7 @@ static void refusals(void)
 {
     boot("offset 9", 3, 9, 1);
     boot("f = 2", 1, 2, 2);
+    boot("f = 0", 1, 0, 21);
     boot("own serial 0", 7, 0, 3);
     boot("11 twice", 15, 11, 4);
     boot("own serial 12", 7, 12, 5);
@@ -233,7 +244,7 @@ static void idle(void)
 {
     for (unsigned i = 0; i < 2; i++) {
         boot("one of two idle controllers", 7, serials[i], 0);
-        memcpy(images[i], image, sizeof image);
+        memcpy(images[i], image, sizeof images[i]);
         carry(i, 1);
     }
     while (under_way > 0) {
@@ -349,6 +360,118 @@ static void sheets(void)
     expect_bytes("two entries", 0, known, sizeof known);
 }
 
+/* ---- A7 */
+
+/* the form of so many controllers, 1 to n, as the last of them fills it in */
+static size_t make_form(uint8_t *form, unsigned n, unsigned f)
+{
+    put4(form, n << 24 | f << 16 | 8);
+    put4(form + 4, n);
+    for (unsigned i = 0; i < n; i++) put4(form + 8 + 4 * i, i + 1);
+    return 8 + 4 * (size_t)n;
+}
+
+static uint8_t image_before[sizeof image], out_before[sizeof out];
+
+static void keep_bytes(void)
+{
+    memcpy(image_before, image, sizeof image);
+    memcpy(out_before, out, sizeof out);
+}
+
+static void expect_kept(const char *call)
+{
+    answers++;
+    if (memcmp(image_before, image, sizeof image) == 0 && memcmp(out_before, out, sizeof out) == 0) return;
+    wrong++;
+    printf("%s: a refusal changed the image or the output\n", call);
+}
+
+static void boot_form(const char *call, const uint8_t *form, size_t length, uint32_t known)
+{
+    keep_bytes();
+    expect_answer(call, pebrassola_boot(form, length, image, size, out, room), known, known == 0, 0);
+    if (known != 0) expect_kept(call);
+}
+
+static void boot_of(const char *call, unsigned n, unsigned f, uint32_t known)
+{
+    uint8_t form[8 + 4 * 33];
+    boot_form(call, form, make_form(form, n, f), known);
+}
+
+/* the form of 7 controllers with f = 1 and with another word at some place */
+static void boot_less(const char *call, unsigned place, uint32_t word, uint32_t known)
+{
+    uint8_t form[36];
+    size_t length = make_form(form, 7, 1);
+    put4(form + place, word);
+    boot_form(call, form, length, known);
+}
+
+static void full_faults(void)
+{
+    memset(image, 0xEE, sizeof image);
+    memset(out, 0xEE, sizeof out);
+    size = MOST_IMAGE;
+    boot_of("n = 7, f = 0", 7, 0, 21);
+    boot_of("n = 7, f = 1", 7, 1, 21);
+    boot_of("n = 7, f = 3", 7, 3, 2);
+    boot_of("n = 32, f = 9", 32, 9, 21);
+    boot_of("n = 32, f = 11", 32, 11, 2);
+    boot_of("n = 33, f = 0", 33, 0, 2);
+    boot_of("n = 33, f = 10", 33, 10, 2);
+    boot_less("f = 1 of 7, offset 9", 0, 0x07010009, 1);
+    boot_less("f = 1 of 7, own serial 0", 4, 0, 21);
+    boot_less("f = 1 of 7, a serial 0", 8, 0, 21);
+    boot_less("f = 1 of 7, 2 twice", 8, 2, 21);
+    boot_less("f = 1 of 7, own serial 8", 4, 8, 21);
+    size = 0;
+    boot_of("f = 1 of 7, no image", 7, 1, 21);
+    boot_of("f = 2 of 7, no image", 7, 2, 6);
+    size = MOST_IMAGE;
+    room = 0;
+    boot_of("f = 1 of 7, no output", 7, 1, 21);
+    boot_of("f = 2 of 7, no output", 7, 2, 7);
+    room = sizeof out;
+    boot_of("n = 7, f = 2", 7, 2, 0);
+    boot_of("n = 32, f = 10", 32, 10, 0);
+    for (unsigned n = 1; n <= 3; n++) boot_of("f = 0 of 1 to 3", n, 0, 0);
+    for (unsigned n = 1; n <= PEBRASSOLA_MOST_CONTROLLERS; n++) {
+        boot_of("the full f", n, PEBRASSOLA_FULL_FAULTS(n), 0);
+        boot_of("one more", n, PEBRASSOLA_FULL_FAULTS(n) + 1, 2);
+        if (n > 3) boot_of("one less", n, PEBRASSOLA_FULL_FAULTS(n) - 1, 21);
+    }
+}
+
+/* an active node of 7 controllers in which nothing is held, so that no rule can fire whatever f is; its image states this one */
+static void images_of(const char *call, unsigned f)
+{
+    image[1] = (uint8_t)f;
+    keep_bytes();
+    read_clock(call, 8, 0);
+    try_deliver(call, 7, ECHO, 1, 8);
+    pack(call, 0, 0, 7, 8, 0);
+    pack(call, 3, 5, 7, 8, 0);
+    expect_kept(call);
+}
+
+static void full_faults_of_images(void)
+{
+    boot_of("7 controllers", 7, 2, 0);
+    image[2] = 1;
+    put4(image + 8, 10);
+    put4(image + 12, 10);
+    images_of("an image of 7 with f = 1", 1);
+    images_of("an image of 7 with f = 0", 0);
+    images_of("an image of 7 with f = 3", 3);
+    image[1] = 2;
+    read_clock("an image of 7 with f = 2", 0, 10);
+    pack("an image of 7 with f = 2", 0, 0, 7, 0, PEBRASSOLA_IN_FORCE);
+    deliver("an image of 7 with f = 2", 7, ECHO, 1, 0, 0);
+    size = 144;
+}
+
 int main(void)
 {
     story();
@@ -358,6 +481,8 @@ int main(void)
     most_alone();
     most_of_four();
     sheets();
+    full_faults();
+    full_faults_of_images();
     printf("header: %u answers, %u wrong\n", answers, wrong);
     return wrong != 0;
 }

@@ -63,17 +63,28 @@ def silent(count, active):
     return written(node.Node(count, (count - 1) // 3, 1, active, CLOCK, CLOCK), nothing)
 
 
+def stating(f, data):
+    """The same image with another f."""
+    return data[:1] + bytes([f]) + data[2:]
+
+
 # each with the number and the clock that read gives
 IMAGES = {
     "active": (ACTIVE, (0, CLOCK)),
     "bytes-behind": (ACTIVE + b"\xff" * 5000, (0, CLOCK)),
     "longest": (silent(32, True), (0, CLOCK)),
     "longest-and-more": (silent(32, True) + b"\xff", (0, CLOCK)),
+    "f-2-of-7": (silent(7, True), (0, CLOCK)),
     "passive": (silent(4, False), (12, 0)),
     "empty": (b"", (8, 0)),
     "short": (ACTIVE[:31], (8, 0)),
     "cut": (ACTIVE[:-1], (8, 0)),
     "byte-3": (ACTIVE[:3] + b"\2" + ACTIVE[4:], (8, 0)),
+    "f-1-of-7": (stating(1, silent(7, True)), (8, 0)),
+    "f-0-of-7": (stating(0, silent(7, True)), (8, 0)),
+    "f-3-of-7": (stating(3, silent(7, True)), (8, 0)),
+    "f-9-of-32": (stating(9, silent(32, True)), (8, 0)),
+    "f-1-of-7-passive": (stating(1, silent(7, False)), (8, 0)),
     "size-929": (ACTIVE[:18] + (929).to_bytes(2, "big") + ACTIVE[20:] + bytes(2000), (8, 0)),
 }
 

@@ -1,7 +1,7 @@
 #!/usr/bin/env python3
-"""The edges of document 01 on fields, forms, frames, sets of ticks and rows, with the flag of request A2, from the papers alone: forms
-and frames are bytes made of their fields, a set of ticks is a Python set of ints. CASES has the cases; this writes what the program
-`edges` is given, and what it must print.
+"""The edges of document 01 on fields, forms, frames, sets of ticks and rows, with the flag of request A2 and the full f of A7, from the
+papers alone: forms and frames are bytes made of their fields, a set of ticks is a Python set of ints. CASES has the cases; this writes
+what the program `edges` is given, and what it must print.
 
 usage: tests/model/edges.py stdin > crates/edges/stdin
        tests/model/edges.py stdout > crates/edges/stdout"""
@@ -41,7 +41,7 @@ def field(call, width, value):
     return case(call, call + ":", [(b"\xee" + word(value, width) + b"\xee").hex(), value], **given)
 
 
-# ---- forms (01, "Layouts" and "Numbers given back")
+# ---- forms (01, "Layouts" and "Numbers given back"; A7: n must not allow a greater f)
 
 def form(n, f, own, serials, offset=8):
     return bytes([n, f]) + word(offset, 2) + words(own, *serials)
@@ -51,6 +51,8 @@ def roster_number(f, own, serials):
     n = len(serials)
     if not 1 <= n <= 32 or n < 3 * f + 1:
         return 2
+    if n >= 3 * (f + 1) + 1:
+        return 21
     if own == 0 or 0 in serials:
         return 3
     if len(set(serials)) < n:
@@ -217,6 +219,10 @@ FOUR = [11, 22, 33, 44]
 MANY = FOUR + [5] * 256
 MOST = list(range(1, 32)) + [2**32 - 1]
 LONGEST = form(32, 10, 2**32 - 1, MOST)
+# n, and f at the full number and beside it: 21 below it, 2 above
+FAULTS = [(2, 0), (3, 0), (4, 0), (5, 0), (5, 1), (6, 1), (6, 2), (7, 0), (7, 1), (7, 2), (7, 3), (31, 9), (31, 10), (32, 0), (32, 9),
+          (32, 10), (32, 11)]
+SEVEN = list(range(1, 8))
 
 CASES = [
     field("half", 2, 0x89AB),
@@ -234,7 +240,18 @@ CASES = [
     read_form("n=1 f=0", ONE),
     read_form("n=3 f=1", form(3, 1, 11, [11, 22, 33])),
     *(read_form(f"n=4 f={f}", form(4, f, 11, FOUR)) for f in (1, 85, 255)),
-    read_form("n=33", form(33, 0, 0, [0] * 33)),
+    read_form("n=33", form(33, 10, 0, [0] * 33)),
+    # 21: less than the full f; 1 and 2 go before it, 3, 4 and 5 behind
+    *(read_form(f"n={n} f={f}", form(n, f, n, range(1, n + 1))) for n, f in FAULTS),
+    read_form("n=7 f=1 offset 9", form(7, 1, 7, SEVEN, offset=9)),
+    read_form("n=7 f=1 one byte short", form(7, 1, 7, SEVEN)[:-1]),
+    read_form("n=33 f=0", form(33, 0, 33, range(1, 34))),
+    read_form("n=33 f=9", form(33, 9, 33, range(1, 34))),
+    read_form("n=7 f=1 own 0", form(7, 1, 0, SEVEN)),
+    read_form("n=7 f=1 and 0", form(7, 1, 7, [0] + SEVEN[1:])),
+    read_form("n=7 f=1 twin", form(7, 1, 1, SEVEN[:6] + [1])),
+    read_form("n=7 f=1 own missing", form(7, 1, 8, SEVEN)),
+    read_form("n=4 f=0 and all of 3, 4, 5", form(4, 0, 7, [9, 0, 9, 8])),
     # 3, in any order of lines
     read_form("5 5 0", form(3, 0, 5, [5, 5, 0])),
     read_form("0 5 5", form(3, 0, 5, [0, 5, 5])),
@@ -250,14 +267,26 @@ CASES = [
     read_serial("past the last line", TWO, 2),
     read_serial("far past the last line", TWO, 2**64 - 1),
     read_serial("of a refused form", form(1, 0, 5, [6]), 0),
+    read_serial("of a form with less than the full f", form(7, 1, 7, SEVEN), 0),
     # 7, and bytes behind
     *(write_form(f"into {room}", 1, 11, FOUR, room) for room in (23, 24, 25)),
-    # 2: f may be wider than a byte, and n is the length of the list. The first four of the 260 would do by themselves
-    *(write_form(f"f={f}", f, 11, FOUR, 25) for f in (85, 256, 4294967295)),
+    # 2: f may be wider than a byte, where a byte of it may be the full one, and three times f than a word; n is the length of the list.
+    # The first four of the 260 would do by themselves
+    *(write_form(f"f={f}", f, 11, FOUR, 25) for f in (85, 256, 257, 1431655765, 4294967295)),
     write_form("no serial", 0, 11, [], 25),
     write_form("3 serials f=1", 1, 11, FOUR[:3], 25),
-    write_form("33 serials", 0, 11, MANY[:33], 25),
+    write_form("33 serials", 10, 11, MANY[:33], 25),
     write_form("260 serials", 1, 11, MANY, 25),
+    # 21: less than the full f; 2 goes before it, 3, 4, 5 and 7 behind
+    *(write_form(f"{n} serials f={f}", f, n, list(range(1, n + 1)), 8 + 4 * n) for n, f in FAULTS),
+    *(write_form(f"33 serials f={f}", f, 33, list(range(1, 34)), 136) for f in (0, 9)),
+    write_form("260 serials f=0", 0, 11, MANY, 25),
+    write_form("7 serials f=1 own 0", 1, 0, SEVEN, 36),
+    write_form("7 serials f=1 and 0", 1, 7, [0] + SEVEN[1:], 36),
+    write_form("7 serials f=1 twin", 1, 1, SEVEN[:6] + [1], 36),
+    write_form("7 serials f=1 own missing", 1, 8, SEVEN, 36),
+    write_form("4 serials f=0 and all of 3, 4, 5", 0, 7, [9, 0, 9, 8], 24),
+    *(write_form(f"7 serials f={f} into no room", f, 7, SEVEN, 0) for f in (1, 2, 3)),
     # 3, in any order of lines; 4, then 5; 7 is last
     write_form("5 5 0", 0, 5, [5, 5, 0], 20),
     write_form("0 5 5", 0, 5, [0, 5, 5], 20),

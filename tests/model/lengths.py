@@ -15,7 +15,7 @@ def words(*numbers):
     return b"".join(number.to_bytes(4, "big") for number in numbers)
 
 
-FORM = bytes([LINES, 0, 0, 8]) + words(1, *range(1, LINES + 1))
+FORM = bytes([LINES, (LINES - 1) // 3, 0, 8]) + words(1, *range(1, LINES + 1))
 GREATEST = words(EVENTS, 12, 12 + len(FORM)) + FORM + (words(1) + node.write_frame(node.ECHO, node.BROADCAST, 0)) * EVENTS
 assert len(GREATEST) == 50_164
 

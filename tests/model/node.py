@@ -1,6 +1,6 @@
 #!/usr/bin/env python3
-"""Document 01 in Python, with A2's flag and A6's count of firings, written from the papers alone and sharing nothing with the Rattle
-crates: evidence is a set of numbers for each serial and kind, and the rules are tried as the paper lists them.
+"""Document 01 in Python, with A2's flag, A6's count of firings and A7's full f, written from the papers alone and sharing nothing with
+the Rattle crates: evidence is a set of numbers for each serial and kind, and the rules are tried as the paper lists them.
 
 usage: node.py < LOG      prints the listing of a log
 
@@ -37,6 +37,7 @@ def number(data):
 
 def check_roster(n, f, own, serials):
     refuse_if(not 1 <= n <= 32 or n < 3 * f + 1, 2)
+    refuse_if(f != (n - 1) // 3, 21)  # too small, where it is not too great
     refuse_if(own == 0 or 0 in serials, 3)
     refuse_if(len(set(serials)) < len(serials), 4)
     refuse_if(own not in serials, 5)

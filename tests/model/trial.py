@@ -13,14 +13,18 @@ import node
 from node import ANSWER, BROADCAST, ECHO, INIT, LAST
 
 FILL = 165  # what buffers hold before a call
-FOUR = bytes([4, 1, 0, 8]) + b"".join(s.to_bytes(4, "big") for s in (11, 11, 22, 33, 44))
 TEXT, HAND_IN, IMAGE, READ, BOOT, DELIVER = range(1, 7)  # kinds of step
+
+
+def make_form(f, own, serials):
+    return bytes([len(serials), f, 0, 8]) + b"".join(s.to_bytes(4, "big") for s in (own, *serials))
 
 
 def blank(length):
     return bytearray([FILL] * length)
 
 
+FOUR = make_form(1, 11, (11, 22, 33, 44))
 stdin, stdout = bytearray(), bytearray()
 image = blank(960)
 
@@ -219,13 +223,14 @@ def unsound(w9):
         """Another init set of 44, which is empty: a top and the first and last byte of the mask."""
         judge(label, {132: top.to_bytes(4, "big") + bytes([first, 0, 0, 0, 0, 0, 0, last])})
 
+    # with f = 0 no rule could fire either: that image is not sound because 4 controllers allow f = 1
     header = "n-5 0 5, f-2 1 2, f-85 1 85, f-0 1 0, mode-2 2 2, byte-3 3 1, offset-33 17 33, offset-288 16 1, size-143 19 143,"
     header += "size-145 19 145, size-400 18 1, byte-20 20 1, byte-23 23 1, byte-24 24 128, byte-27 27 1, byte-28 28 1, byte-31 31 255"
     for label, at, byte in (case.split() for case in header.split(",")):
         with_byte(label, int(at), int(byte))
     # a header that agrees with itself, of no rows and of 33
     judge("n-0", {0: b"\0\0", 19: b"\x20"})
-    judge("n-33", {0: b"\x21", 18: (32 + 28 * 33).to_bytes(2, "big")})
+    judge("n-33", {0: b"\x21\x0a", 18: (32 + 28 * 33).to_bytes(2, "big")})
     for label, at, byte in (("own-0", 7, 0), ("own-12", 7, 12), ("serial-0", 63, 0), ("twin-11", 63, 11), ("own-44", 7, 44)):
         with_byte(label, at, byte)
     with_clock("last-echo-6", 5, 6)
@@ -253,8 +258,8 @@ def unsound(w9):
 
 
 def rosters():
-    """Forms that boot refuses with 1 to 5, and one with great serials that it takes. A zero counts before a twin, whatever the
-    order of lines."""
+    """Forms that boot refuses with 1, 2, 21, 3, 4 or 5, and one with great serials that it takes. A zero counts before a twin, whatever
+    the order of lines."""
     clear()
     for size in (0, 7, 23):
         try_boot(f"form-of-{size}", FOUR[:size])
@@ -263,7 +268,7 @@ def rosters():
         ("offset-9", "01000009 00000007 00000007"),
         ("offset-264", "01000108 00000007 00000007"),
         ("n-0", "00000008 00000007"),
-        ("n-33", "21010008" + "01010101" * 34),
+        ("n-33", "210a0008" + "01010101" * 34),
         ("n-3-f-1", "03010008 00000001 00000001 00000002 00000003"),
         ("n-1-f-85", "01550008 00000007 00000007"),
         ("own-0", "01000008 00000000 00000007"),
@@ -272,9 +277,38 @@ def rosters():
         ("twins", "03000008 00000009 00000007 00000008 00000007"),
         ("own-unknown", "02000008 00000009 00000007 00000008"),
     )
-    for label, form in forms:
-        try_boot(label, bytes.fromhex(form))
+    for label, digits in forms:
+        try_boot(label, bytes.fromhex(digits))
+    # f beside the full number, 21 below it and 2 above; 1 and 2 go before 21, all others behind
+    for n, f in ((4, 0), (7, 0), (7, 1), (7, 3), (31, 9), (32, 0), (32, 9), (32, 11), (33, 0), (33, 9)):
+        try_boot(f"n-{n}-f-{f}", make_form(f, n, range(1, n + 1)))
+    less = make_form(1, 7, range(1, 8))
+    try_boot("less-of-35", less[:-1])
+    try_boot("less-offset-9", less[:3] + b"\x09" + less[4:])
+    lists = (
+        ("own-0", 0, (1, 2, 3, 4, 5, 6, 7)),
+        ("zero", 7, (0, 2, 3, 4, 5, 6, 7)),
+        ("twins", 7, (1, 1, 3, 4, 5, 6, 7)),
+        ("own-unknown", 8, (1, 2, 3, 4, 5, 6, 7)),
+        ("all-three", 8, (0, 2, 2, 4, 5, 6, 7)),
+    )
+    for label, own, serials in lists:
+        try_boot(f"less-{label}", make_form(1, own, serials))
+    try_boot("less-image-0", less, 0)
+    try_boot("less-out-0", less, 960, 0)
     boot("greatest-serial", bytes.fromhex("02000008 ffffffff 01000000 ffffffff"), 88)
+
+
+def faults():
+    """Images that state less than the full f, or more, and the sound ones that they are made from: nothing is held in them, so that no
+    rule can fire whatever f is."""
+    for n, beside in ((1, (1,)), (2, (1,)), (3, (1,)), (4, (0, 2)), (7, (0, 1, 3)), (32, (0, 9, 11))):
+        full = (n - 1) // 3
+        boot(f"faults-{n}", make_form(full, n, range(1, n + 1)), 32 + 28 * n)
+        for f in (*beside, full):
+            hand_in(bytes([n, f]))
+            read(f"faults-{n}-{f}")
+            try_deliver(f"faults-{n}-{f}", n, INIT, 2)
 
 
 def zero():
@@ -392,8 +426,7 @@ def large():
     """n = 32, f = 10, own serial 33 on line 31. Echo 0 from n - f = 22 lines brings the first tick; the next line is still answered
     with echo 0, the last that was sent. Init 1 from f + 1 = 11 lines wakes the node."""
     clear()
-    form = bytes([32, 10, 0, 8]) + b"".join(s.to_bytes(4, "big") for s in (33, *range(64, 32, -1)))
-    boot("many", form, 928)
+    boot("many", make_form(10, 33, range(64, 32, -1)), 928)
     for row in range(23):
         deliver("many-echo-0", row, 64 - row, ECHO, 0)
     for row in range(11):
@@ -408,7 +441,7 @@ def main():
     w9 = story()
     for trial in (refused, room, unsound, answers):
         trial(w9)
-    for trial in (rosters, zero, last, small, large):
+    for trial in (rosters, faults, zero, last, small, large):
         trial()
     sys.stdout.buffer.write(stdin if sys.argv[1] == "stdin" else stdout)
 

@@ -1,7 +1,7 @@
 -- The definitions at work on 01's own examples and edges, computed by the checker: what a reader can compare with the paper.
 -- Assumes nothing.
 use mathlib.Core.Path.{_≡_, refl}
-use Prim.Native.Nat.{ℕ}
+use Prim.Native.Nat.{ℕ, zero, suc}
 use mathlib.Core.List.{List, [], _∷_, List·Permᴰ·swap}
 use lib.ListN.{replicate}
 use Rattle.fields.specs.Field.{field, putField, words, putWords}
@@ -42,6 +42,36 @@ numbers :
     × (rosterNumber 85 5 (5 ∷ []) ≡ 2) × (rosterNumber 0 5 (replicate 33 5) ≡ 2) × (rosterNumber 0 5 [] ≡ 2)
 unfolding rosterNumber count twins
 numbers = (refl, refl, refl, refl, refl, refl, refl, refl, refl)
+
+-- all serials from n down to 1
+serialsTo : ℕ → List ℕ
+serialsTo zero = []
+serialsTo (suc n) = suc n ∷ serialsTo n
+
+-- the numbers of rosters of n lines with fault number least, least + 1 and so on, so many
+statedFrom : ℕ → ℕ → ℕ → List ℕ
+statedFrom n least zero = []
+statedFrom n least (suc more) = rosterNumber least 1 (serialsTo n) ∷ statedFrom n (suc least) more
+
+-- one fault number is taken for each n, the greatest that n allows (02, A7): 21 below it, 2 above
+full-ones :
+    (statedFrom 1 0 2 ≡ 0 ∷ 2 ∷ []) × (statedFrom 2 0 2 ≡ 0 ∷ 2 ∷ []) × (statedFrom 3 0 2 ≡ 0 ∷ 2 ∷ [])
+    × (statedFrom 4 0 3 ≡ 21 ∷ 0 ∷ 2 ∷ []) × (statedFrom 6 0 3 ≡ 21 ∷ 0 ∷ 2 ∷ []) × (statedFrom 7 0 4 ≡ 21 ∷ 21 ∷ 0 ∷ 2 ∷ [])
+    × (statedFrom 32 9 3 ≡ 21 ∷ 0 ∷ 2 ∷ []) × (statedFrom 33 10 1 ≡ 2 ∷ [])
+unfolding serialsTo statedFrom rosterNumber count twins
+full-ones = (refl, refl, refl, refl, refl, refl, refl, refl)
+
+-- 21 comes before a zero, a twin and a stranger
+stated-first :
+    (rosterNumber 0 5 (5 ∷ 0 ∷ 6 ∷ 7 ∷ []) ≡ 21) × (rosterNumber 0 5 (5 ∷ 5 ∷ 6 ∷ 7 ∷ []) ≡ 21)
+    × (rosterNumber 0 5 (6 ∷ 7 ∷ 8 ∷ 9 ∷ []) ≡ 21) × (rosterNumber 1 5 (5 ∷ 0 ∷ 6 ∷ 7 ∷ []) ≡ 3)
+unfolding rosterNumber count twins
+stated-first = (refl, refl, refl, refl)
+
+-- and the writer gives it too
+not-written : formWritten 0 11 (11 ∷ 22 ∷ 33 ∷ 44 ∷ []) (replicate 23 9) ≡ record { number = 21; written = 0; out = replicate 23 9 }
+unfolding formWritten rosterNumber count twins
+not-written = refl
 
 frame :
     frameTold 4000000000 (2 ∷ 0 ∷ 0 ∷ 0 ∷ 238 ∷ 107 ∷ 40 ∷ 0 ∷ [])

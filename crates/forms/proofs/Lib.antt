@@ -1,6 +1,7 @@
 -- The laws and theorems of `forms` that belong to no single function.
 pub mod Columns
 mod Examples
+pub mod Faults
 pub mod FrameTrip
 pub mod Frames
 pub mod Meaning

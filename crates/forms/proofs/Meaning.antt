@@ -1,4 +1,4 @@
--- Each number is given exactly when the paper says, and in no other case (01, "Numbers given back"). The rows of the paper's
+-- Each number is given exactly when the paper says, and in no other case (01, "Numbers given back", and 02, A7). The rows of the
 -- table are propositions (specs/Table.antt), and each theorem says for every k that the number given is k exactly where the first
 -- row that applies has number k, and 0 where none applies.
 -- Assumes nothing.
@@ -16,12 +16,12 @@ use Rattle.forms.specs.Number.{orElse}
 use Rattle.fields.specs.Field.{field}
 use Rattle.fields.specs.Kind.{INIT, ECHO}
 use Rattle.forms.specs.Column.{count, twins}
-use Rattle.forms.specs.Roster.{mostLines, rosterNumber}
+use Rattle.forms.specs.Roster.{mostLines, fullFaults, rosterNumber}
 use Rattle.forms.specs.Form.{serialsPlace, formSize, linesOf, faultsOf, ownOf, serialsOf, misplaced, formNumber}
 use Rattle.forms.specs.Form.{FormTold, formTold, WriteTold, writeTold, formWritten}
 use Rattle.forms.specs.Frame.{frameSize, BROADCAST, ANSWER, knownHead, misshapen, FrameTold, frameNumber, frameTold, frameWritten}
 use Rattle.forms.specs.declared.frame.Frame.{Frame}
-use Rattle.forms.specs.Table.{_or_, Misplaced, HasZero, Twice, Beyond, KnownHead, BadHead, Misshapen}
+use Rattle.forms.specs.Table.{_or_, Misplaced, HasZero, Twice, Beyond, Understated, KnownHead, BadHead, Misshapen}
 use Rattle.forms.specs.Table.{Check, _when_, Given, Says, rosterChecks, formChecks, frameChecks, roomCheck}
 use Rattle.fields.proofs.Words.{length-words}
 
@@ -151,22 +151,24 @@ past false n rest next = refl
 
 -- a roster's number, with other checks behind
 pub roster-then : (f own : ℕ) (serials : List ℕ) {next : ℕ} {checks : List Check} →
-    Says next checks → (Given checks 2 → ⊥) × (Given checks 3 → ⊥) × (Given checks 4 → ⊥) × (Given checks 5 → ⊥) →
+    Says next checks →
+    (Given checks 2 → ⊥) × (Given checks 21 → ⊥) × (Given checks 3 → ⊥) × (Given checks 4 → ⊥) × (Given checks 5 → ⊥) →
     Says (orElse (rosterNumber f own serials) next) (rosterChecks (length serials) f own serials ++ checks)
 unfolding rosterNumber
 roster-then f own serials {next} {checks} says fresh =
-    rw (past, past, past, past)
-    (in-front 2 (beyond-says (length serials) f) (λ g. fresh .0 (g .1 .1 .1))
-    (in-front 3 (Iff·trans (less 0 (count 0 (own ∷ serials))) (zeros own serials)) (λ g. fresh .1 (g .1 .1))
-    (in-front 4 (Iff·trans (less 0 (twins serials)) (twice-says serials)) (λ g. fresh .2 (g .1))
-    (in-front 5 (absent own serials) (fresh .3)
-    says))))
+    rw (past, past, past, past, past)
+    (in-front 2 (beyond-says (length serials) f) (λ g. fresh .0 (g .1 .1 .1 .1))
+    (in-front 21 (less f (fullFaults (length serials))) (λ g. fresh .1 (g .1 .1 .1))
+    (in-front 3 (Iff·trans (less 0 (count 0 (own ∷ serials))) (zeros own serials)) (λ g. fresh .2 (g .1 .1))
+    (in-front 4 (Iff·trans (less 0 (twins serials)) (twice-says serials)) (λ g. fresh .3 (g .1))
+    (in-front 5 (absent own serials) (fresh .4)
+    says)))))
 
 else-zero : (n : ℕ) → orElse n 0 ≡ n
 else-zero zero = refl
 else-zero (suc n) = refl
 
--- a roster's number is what the paper's rows 2 to 5 give
+-- a roster's number is what rows 2, 21, 3, 4 and 5 give
 pub roster-says : (f own : ℕ) (serials : List ℕ) → Says (rosterNumber f own serials) (rosterChecks (length serials) f own serials)
 roster-says f own serials = rw (else-zero (rosterNumber f own serials)) at (roster-then f own serials none (omega arith))
 
@@ -191,7 +193,7 @@ misplaced-says b =
     either _ _ (either _ _ (less (length b) serialsPlace) (opposite _ (equal (field 2 b 2) serialsPlace)))
     (opposite _ (equal (length b) (formSize (linesOf b))))
 
--- the form reader's number is what rows 1 to 5 give
+-- the form reader's number is what row 1 and the roster's rows give
 pub form-says : (b : List ℕ) → Says (formTold b .number) (formChecks b)
 unfolding formNumber
 form-says b =
@@ -201,14 +203,15 @@ form-says b =
 
 -- a form's number, with other checks behind
 pub form-then : (b : List ℕ) {next : ℕ} {checks : List Check} →
-    Says next checks → (Given checks 1 → ⊥) × (Given checks 2 → ⊥) × (Given checks 3 → ⊥) × (Given checks 4 → ⊥) × (Given checks 5 → ⊥) →
+    Says next checks → (Given checks 1 → ⊥) ×
+    (Given checks 2 → ⊥) × (Given checks 21 → ⊥) × (Given checks 3 → ⊥) × (Given checks 4 → ⊥) × (Given checks 5 → ⊥) →
     Says (orElse (formNumber b) next) (formChecks b ++ checks)
 unfolding formNumber
 form-then b {next} {checks} says fresh =
     rw past
-    (in-front 1 (misplaced-says b) (λ g. fresh .0 (g .1 .1 .1 .1))
+    (in-front 1 (misplaced-says b) (λ g. fresh .0 (g .1 .1 .1 .1 .1))
     (rw (length-words (linesOf b) 4 b serialsPlace) at
-    (roster-then (faultsOf b) (ownOf b) (serialsOf b) says (fresh .1, fresh .2, fresh .3, fresh .4))))
+    (roster-then (faultsOf b) (ownOf b) (serialsOf b) says (fresh .1, fresh .2, fresh .3, fresh .4, fresh .5))))
 
 upto : (flag : ℕ) → Decides (leb flag ANSWER) ((flag ≡ BROADCAST) or (flag ≡ ANSWER))
 upto flag = (
@@ -260,7 +263,7 @@ pub write-number : (number size : ℕ) (before after : List ℕ) →
 write-number zero size before after = either-number (λ (t : WriteTold). t .number) (ltb (length before) size) _ _
 write-number (suc n) size before after = rw (eqb·suc-zero n)
 
--- the form writer's number is what rows 2 to 5 give, and 7 last
+-- the form writer's number is what the roster's rows give, and 7 last
 pub form-writer-says : (f own : ℕ) (serials out : List ℕ) →
     Says (formWritten f own serials out .number)
     (rosterChecks (length serials) f own serials ++ roomCheck (formSize (length serials)) out ∷ [])
@@ -279,9 +282,14 @@ frame-writer-says last frame out =
 
 -- ---- single rows
 
--- each row of the table is one instance of these; so 4 of a roster, 11 of a frame, and 7 of the frame writer
+-- each row of the table is one instance of these; so 21 and 4 of a roster, 11 of a frame, and 7 of the frame writer
+row-21 : (f own : ℕ) (serials : List ℕ) →
+    (rosterNumber f own serials ≡ 21) ↔ ((Beyond (length serials) f → ⊥) × Understated (length serials) f)
+row-21 f own serials = roster-says f own serials .exactly 21
+
 row-4 : (f own : ℕ) (serials : List ℕ) →
-    (rosterNumber f own serials ≡ 4) ↔ ((Beyond (length serials) f → ⊥) × ((HasZero own serials → ⊥) × Twice serials))
+    (rosterNumber f own serials ≡ 4)
+    ↔ ((Beyond (length serials) f → ⊥) × ((Understated (length serials) f → ⊥) × ((HasZero own serials → ⊥) × Twice serials)))
 row-4 f own serials = roster-says f own serials .exactly 4
 
 row-11 : (last : ℕ) (b : List ℕ) → (frameTold last b .number ≡ 11) ↔ ((Misshapen b → ⊥) × (last < field 4 b 4))

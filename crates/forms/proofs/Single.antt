@@ -11,7 +11,7 @@ use Rattle.forms.specs.Form.{toldBy as formBy}
 use Rattle.forms.specs.Frame.{FrameTold}
 use Rattle.forms.specs.Frame.{toldBy as frameBy}
 use Rattle.forms.specs.declared.answer.Refusal.{Refusal}
-use Rattle.forms.specs.declared.answer.Refusal.the-variants.{Layout, Limits, Zero, Twice, Stranger, Room, Shape, Late}
+use Rattle.forms.specs.declared.answer.Refusal.the-variants.{Layout, Limits, Understated, Zero, Twice, Stranger, Room, Shape, Late}
 use Rattle.forms.specs.declared.answer.Verdict.{Verdict}
 use Rattle.forms.specs.declared.answer.Verdict.the-variants.{Sound, Broken}
 use Rattle.forms.specs.declared.answer.Written.{Written}
@@ -27,17 +27,19 @@ caseOf : ℕ → Refusal
 caseOf n =
     cond (eqb n 1) Layout
     (cond (eqb n 2) Limits
+    (cond (eqb n 21) Understated
     (cond (eqb n 3) Zero
     (cond (eqb n 4) Twice
     (cond (eqb n 5) Stranger
     (cond (eqb n 7) Room
     (cond (eqb n 10) Shape
-    Late))))))
+    Late)))))))
 
 back : (why : Refusal) → caseOf (numberOf why) ≡ why
 unfolding caseOf
 back Layout = refl
 back Limits = refl
+back Understated = refl
 back Zero = refl
 back Twice = refl
 back Stranger = refl

@@ -15,13 +15,14 @@ use Rattle.forms.specs.Form.{FormTold, formTold, refusedForm}
 use Rattle.forms.specs.Number.{numberOf, orElse}
 use Rattle.forms.specs.Roster.{rosterNumber}
 use Rattle.forms.specs.declared.answer.Refusal.{Refusal}
-use Rattle.forms.specs.declared.answer.Refusal.the-variants.{Layout, Limits, Zero, Twice, Stranger, Room, Shape, Late}
+use Rattle.forms.specs.declared.answer.Refusal.the-variants.{Layout, Limits, Understated, Zero, Twice, Stranger, Room, Shape, Late}
 use Rattle.forms.proofs.Meaning.{form-told}
 
 -- no refusal has number 0
 pub refusal : (why : Refusal) → eqb (numberOf why) 0 ≡ false
 refusal Layout = refl
 refusal Limits = refl
+refusal Understated = refl
 refusal Zero = refl
 refusal Twice = refl
 refusal Stranger = refl

@@ -42,6 +42,10 @@ misplaced b = ltb (length b) serialsPlace || not (eqb (field 2 b 2) serialsPlace
 unfoldable pub formNumber : List ℕ → ℕ
 formNumber b = cond (misplaced b) 1 (rosterNumber (faultsOf b) (ownOf b) (serialsOf b))
 
+-- the same form with another fault number
+abbrev pub restated : List ℕ → ℕ → List ℕ
+restated b f = putField 1 b 1 f
+
 -- ---- the order of lines
 
 -- the lines that the bytes hold, whatever n says: all whole words behind the front. A form of right length has n of them, and then they

@@ -1,14 +1,15 @@
--- The numbers that this layer gives back (01, "Numbers given back"), a number for each case of the answers' enums.
+-- The numbers that this layer gives back (01, "Numbers given back", and 02, A7), a number for each case of the answers' enums.
 -- Number 0 is success. What comes with a refusal is fixed where the answer is defined: every field 0.
 use Prim.Native.Nat.{ℕ, zero, suc}
 use Rattle.forms.specs.declared.answer.Refusal.{Refusal}
-use Rattle.forms.specs.declared.answer.Refusal.the-variants.{Layout, Limits, Zero, Twice, Stranger, Room, Shape, Late}
+use Rattle.forms.specs.declared.answer.Refusal.the-variants.{Layout, Limits, Understated, Zero, Twice, Stranger, Room, Shape, Late}
 use Rattle.forms.specs.declared.answer.Verdict.{Verdict}
 use Rattle.forms.specs.declared.answer.Verdict.the-variants.{Sound, Broken}
 
 abbrev pub numberOf : Refusal → ℕ
 numberOf Layout = 1
 numberOf Limits = 2
+numberOf Understated = 21
 numberOf Zero = 3
 numberOf Twice = 4
 numberOf Stranger = 5

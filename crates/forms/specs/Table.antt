@@ -1,5 +1,5 @@
--- The rows of the paper's table of numbers that forms and frames give (01, "Numbers given back"), as plain propositions with no test
--- and no count in them; and what it means that checks, made one after the other, give a number. proofs/Meaning.antt shows that readers
+-- The rows of the table of numbers that forms and frames give (01, "Numbers given back", and 02, A7), as plain propositions with no
+-- test and no count in them; and what it means that checks, made one after the other, give a number. proofs/Meaning.antt shows that readers
 -- and writers give just these numbers.
 use mathlib.Core.Path.{_≡_}
 use mathlib.Core.Logic.{_↔_, _≢_, _⊎_}
@@ -12,7 +12,7 @@ use Rattle.fields.specs.Field.{field}
 use Rattle.fields.specs.Kind.{INIT, ECHO}
 use Rattle.forms.specs.Form.{serialsPlace, formSize, linesOf, faultsOf, ownOf, serialsOf}
 use Rattle.forms.specs.Frame.{frameSize, BROADCAST, ANSWER}
-use Rattle.forms.specs.Roster.{mostLines}
+use Rattle.forms.specs.Roster.{mostLines, fullFaults}
 
 infixl 2 _or_
 infix 70 _when_
@@ -29,6 +29,10 @@ Misplaced b = (length b < serialsPlace) or (field 2 b 2 ≢ serialsPlace) or (le
 -- 2: n not 1..32, or n < 3f + 1
 abbrev pub Beyond : ℕ → ℕ → Type 0
 Beyond n f = (n < 1) or (mostLines < n) or (n < 3 * f + 1)
+
+-- 21: f less than n allows (02, A7)
+abbrev pub Understated : ℕ → ℕ → Type 0
+Understated n f = f < fullFaults n
 
 -- 3: a serial or the own serial is 0
 abbrev pub HasZero : ℕ → List ℕ → Type 0
@@ -80,16 +84,17 @@ pub record Says (number : ℕ) (checks : List Check) : Type 0 where
 
 -- ---- the checks of a roster, a form, a frame and a writer
 
--- numbers 2 to 5
+-- numbers 2, 21, 3, 4 and 5
 abbrev pub rosterChecks : ℕ → ℕ → ℕ → List ℕ → List Check
 rosterChecks n f own serials =
     2 when Beyond n f
+    ∷ 21 when Understated n f
     ∷ 3 when HasZero own serials
     ∷ 4 when Twice serials
     ∷ 5 when Stranger own serials
     ∷ []
 
--- numbers 1 to 5
+-- number 1, then those of the roster
 abbrev pub formChecks : List ℕ → List Check
 formChecks b = 1 when Misplaced b ∷ rosterChecks (linesOf b) (faultsOf b) (ownOf b) (serialsOf b)
 

@@ -7,6 +7,8 @@ pub enum Refusal {
     Layout,
     // n not 1..32, or n < 3f + 1
     Limits,
+    // f less than n allows: not (n - 1) / 3 rounded down
+    Understated,
     // a serial or the own serial is 0
     Zero,
     // a serial stands twice
@@ -29,6 +31,7 @@ impl Refusal {
         match self {
             Refusal::Layout => 1,
             Refusal::Limits => 2,
+            Refusal::Understated => 21,
             Refusal::Zero => 3,
             Refusal::Twice => 4,
             Refusal::Stranger => 5,

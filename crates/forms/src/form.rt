@@ -87,7 +87,7 @@ fn put_serials(out: &mut [u8], i: usize, serials: &[u32])
     }
 }
 
-// The first of 2 to 5 that applies to a list of serials, on a copy in the form's own layout.
+// The first of 2, 21, 3, 4 and 5 that applies to a list of serials, on a copy in the form's own layout.
 fn judge_list(f: u32, own: u32, serials: &[u32]) -> Verdict
     ensures { λ r. ⌜ verdictOf r ≡ rosterNumber f own (now (serials .entry)) ⌝ }
 {

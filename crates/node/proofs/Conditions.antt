@@ -90,7 +90,7 @@ zeros-say b = (
 
 -- ---- the roster
 
--- 2 to 5 accept a roster exactly where none of their rows applies
+-- 2, 21, 3, 4 and 5 accept a roster exactly where none of their rows applies
 accepted : (n f own : ℕ) (serials : List ℕ) →
     length serials ≡ n →
     (rosterNumber f own serials ≡ 0) ↔ Given (rosterChecks n f own serials) 0
@@ -117,7 +117,7 @@ module _ (L : Layout) (last : ℕ) (b : List ℕ) where
       let fixed = fixed-facts L b (h .fixed) in
       let roster = accepted _ _ _ _ (image-lines L b) .0 (s .roster) in
       let sets = rows-say (L .window) last (rowsOf L b) .0 (s .sets) in
-      let rest = which-says (L .window) last (rowsOf L b) (nodeOf b) Rest (roster .1 .1 .0) .0 (s .rest) in
+      let rest = which-says (L .window) last (rowsOf L b) (nodeOf b) Rest (roster .1 .1 .1 .0) .0 (s .rest) in
       record {
         header = h .header;
         stated = h .stated;
@@ -126,9 +126,10 @@ module _ (L : Layout) (last : ℕ) (b : List ℕ) where
         size = fixed .size;
         zeros = zeros-say b .0 (fixed .zero₁, fixed .zero₂, fixed .zero₃);
         limits = roster .0;
-        no-zero = roster .1 .0;
-        no-twin = roster .1 .1 .0;
-        own-listed = roster .1 .1 .1 .0;
+        full = roster .1 .0;
+        no-zero = roster .1 .1 .0;
+        no-twin = roster .1 .1 .1 .0;
+        own-listed = roster .1 .1 .1 .1 .0;
         mode = mode-says _ .0 (s .mode);
         sent = s .sent;
         tick = s .tick;
@@ -157,7 +158,7 @@ module _ (L : Layout) (last : ℕ) (b : List ℕ) where
           zero₃ = zeros .2;
         });
         node = record {
-          roster = accepted _ _ _ _ (image-lines L b) .1 (h .limits, (h .no-zero, (h .no-twin, (h .own-listed, refl))));
+          roster = accepted _ _ _ _ (image-lines L b) .1 (h .limits, (h .full, (h .no-zero, (h .no-twin, (h .own-listed, refl)))));
           mode = mode-says _ .1 (h .mode);
           sent = h .sent;
           tick = h .tick;

@@ -19,7 +19,7 @@ use Rattle.node.specs.Table.{bootChecks, deliverChecks, readChecks}
 use Rattle.node.proofs.Conditions.{not-sound-says}
 use Rattle.node.proofs.Outcomes.{boot-told, deliver-told, read-told}
 
--- ---- boot: 1 to 5 of the form, 6, 7
+-- ---- boot: the form's own, 6, 7
 
 pub boot-says : (L : Layout) (form image out : List ℕ) → Says (booted L form image out .number) (bootChecks L form image out)
 unfolding bootNumber

@@ -9,16 +9,22 @@ use mathlib.Core.Path.{_≡_, refl, sym, ap, _∙_, subst}
 use mathlib.Core.Bool.{true}
 use mathlib.Core.Logic.{_↔_, _≢_, _⊎_}
 use mathlib.Core.List.{List, [], _∷_, _++_, List·Memᴰ}
-use Prim.Native.Nat.{ℕ, _+_, _*_, _≤_, _<_}
+use Prim.Native.Nat.{ℕ, _+_, _-_, _*_, _≤_, _<_}
 use native.Mathlib.Omega.{arith}
 use lib.ListN.{length, getD}
 use lib.Dec.{lit<}
 use Rattle.fields.specs.Field.{Bytes}
 use Rattle.fields.specs.Kind.{INIT, ECHO}
-use Rattle.forms.specs.Form.{linesOf, Reordered}
+use Rattle.forms.specs.Form.{linesOf, faultsOf, formNumber, restated, Reordered}
 use Rattle.forms.specs.Frame.{ANSWER, frameAt}
-use Rattle.forms.specs.Table.{KnownHead, Says, Twice}
+use Rattle.forms.specs.Number.{numberOf}
+use Rattle.forms.specs.Roster.{fullFaults}
+use Rattle.forms.specs.Table.{KnownHead, Says, Twice, Understated}
+use Rattle.forms.specs.declared.answer.Refusal.{Refusal}
+use Rattle.forms.specs.declared.answer.Refusal.the-variants as refusal
 use Rattle.forms.specs.declared.frame.Frame.{Frame}
+use Rattle.forms.proofs.Faults.{form-full, form-majority, form-greater, form-smaller}
+use Rattle.forms.proofs.Told.{none-given}
 use Rattle.evidence.specs.Holders.{heldUnder}
 use Rattle.evidence.specs.Rows.{Row}
 use Rattle.evidence.specs.Serials.{serialsIn}
@@ -38,7 +44,8 @@ use Rattle.rules.proofs.Every.{every-member}
 use Rattle.rules.proofs.Which.{which-says}
 use Rattle.node.specs.After.{Begins, Follows, InRow}
 use Rattle.node.specs.Answers.{outcomeBy, readingBy}
-use Rattle.node.specs.Calls.{Outcome, refused, booted, deliverNumber, deliveryOf, deliverDone, deliverOutcome, unread, reading}
+use Rattle.node.specs.Calls.{Outcome, refused, bootNumber, booted, deliverNumber, deliveryOf, deliverDone, deliverOutcome}
+use Rattle.node.specs.Calls.{unread, reading}
 use Rattle.node.specs.Calls.{Reading as Told}
 use Rattle.node.specs.Heard.{imageLeft, accepted}
 use Rattle.node.specs.Image.{modePlace, tickPlace, sentPlace}
@@ -62,6 +69,7 @@ use Rattle.node.proofs.Outcomes.{boot-told, boot-done, boot-refused, de
 use Rattle.node.proofs.Outcomes.{read-done, read-refused}
 use Rattle.node.proofs.SoundImages.{in-service, boot-sound}
 use Rattle.node.proofs.SoundImages.{delivery-sound, delivery-ordered, delivery-all, delivery-below}
+use Rattle.node.proofs.Taken.{form-refuses}
 use Rattle.node.proofs.Traffic.{delivery-back, flag-of-the-answer, sends-known, same-image, same-others}
 use Rattle.node.proofs.Traffic.{asks-fewer, calls-modest, life-sent, bytes-booted}
 
@@ -97,6 +105,44 @@ module _ (form image out : List ℕ) where
       let done = boot-done layout form image out (sym (boot-told layout form image out) ∙ ok) in
       (ap (λ (o : Outcome). o .records) done, ap (λ (o : Outcome). o .out) done)
 
+  -- ---- The full fault number (02, A7)
+
+  -- the form that boot takes is in order
+  form-in-order : boots .number ≡ 0 → formNumber form ≡ 0
+  unfolding bootNumber
+  form-in-order ok = none-given (formNumber form) _ (sym (boot-told layout form image out) ∙ ok) .0
+
+  -- For sales. A truck starts with the most faults declared that its number of controllers allows
+  pub boot-declares-all :
+      boots .number ≡ 0
+      → faultsOf form ≡ fullFaults (linesOf form)
+  boot-declares-all ok = form-full form (form-in-order ok)
+
+  -- For sales. No other number of faults could be declared in its place: a greater one is refused with 2, a smaller one with 21
+  pub boot-takes-no-other :
+      boots .number ≡ 0
+      → (f : ℕ)
+      → f < 256
+      → (faultsOf form < f → booted layout (restated form f) image out .number ≡ 2)
+      × (f < faultsOf form → booted layout (restated form f) image out .number ≡ 21)
+  boot-takes-no-other ok f fits = (
+    λ more. refuses refusal.Limits (form-greater form (form-in-order ok) f fits more),
+    λ less. refuses refusal.Understated (form-smaller form (form-in-order ok) f fits less),
+  )
+    where
+      other : List ℕ
+      other = restated form f
+
+      refuses : (why : Refusal) → formNumber other ≡ numberOf why → booted layout other image out .number ≡ numberOf why
+      refuses why e = boot-told layout other image out ∙ form-refuses layout other (length image) (length out) why e
+
+  -- For sales. n - f is more than half of n + f: two groups of n - f controllers have more than f in common, so one at least that
+  -- is not faulty
+  pub boot-keeps-a-majority :
+      boots .number ≡ 0
+      → linesOf form + faultsOf form < 2 * (linesOf form - faultsOf form)
+  boot-keeps-a-majority ok = form-majority form (form-in-order ok)
+
   -- No rule fires at boot (02, A6)
   pub boot-fires-none : boots .fired ≡ 0
   boot-fires-none = none-fired layout form image out
@@ -130,6 +176,13 @@ module _ (image : List ℕ) (port : ℕ) (frame out : List ℕ) where
   deliver-refusal n =
       let told = deliver-told layout lastTick image port frame out in
       deliver-refused layout lastTick image port frame out (λ e. n (told ∙ e)) ∙ ap (λ (k : ℕ). refused k image out) (sym told)
+
+  -- An image that declares less than the full fault number is refused, whatever else it holds (02, A7)
+  pub deliver-refuses-less :
+      room ≤ length out
+      → Understated (nodeOf image .lines) (nodeOf image .faults)
+      → delivers .number ≡ 8
+  deliver-refuses-less wide less = deliver-numbers .exactly 8 .1 (λ short. omega arith, λ sound. sound .full less)
 
   given : delivers .number ≡ 0 → deliverNumber layout lastTick image port frame (length out) ≡ 0
   given ok = sym (deliver-told layout lastTick image port frame out) ∙ ok
@@ -347,6 +400,10 @@ module _ (image : List ℕ) where
   -- Demand 1. A refused read gives clock 0
   pub read-refusal : (reads .number ≡ 0 → ⊥) → reads ≡ unread (reads .number)
   read-refusal = read-refused layout lastTick image
+
+  -- An image that declares less than the full fault number is refused (02, A7)
+  pub read-refuses-less : Understated (nodeOf image .lines) (nodeOf image .faults) → reads .number ≡ 8
+  read-refuses-less less = read-numbers .exactly 8 .1 (λ sound. sound .full less)
 
   -- Demand 2. The clock of an active node is k
   pub read-is-k : reads .number ≡ 0 → reads .clock ≡ nodeOf image .tick

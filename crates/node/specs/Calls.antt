@@ -32,7 +32,7 @@ refused number image out = record { number = number; records = 0; fired = 0; ima
 abbrev pub outcome : ℕ → List ℕ → List ℕ → Outcome → Outcome
 outcome number image out done = cond (eqb number 0) done (refused number image out)
 
--- ---- boot: 1 to 5, then 6, then 7
+-- ---- boot: the form's own, then 6, then 7
 
 unfoldable pub bootNumber : Layout → List ℕ → ℕ → ℕ → ℕ
 bootNumber L form imageLength outLength =

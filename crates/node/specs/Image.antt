@@ -113,7 +113,7 @@ fixedHeader L b =
     eqb (getD b 3 0) (L .mark) && (eqb (field 2 b 16) headerSize && (eqb (field 2 b 18) (imageSize L (getD b 0 0))
     && (eqb (field 4 b 20) 0 && (eqb (field 4 b 24) 0 && eqb (field 4 b 28) 0))))
 
--- a roster that 2 to 5 would accept, mode 0 or 1, last echo ≤ k ≤ last tick, proper sets, and no rule that can fire
+-- a roster that 2, 21, 3, 4 and 5 would accept, mode 0 or 1, last echo ≤ k ≤ last tick, proper sets, and no rule that can fire
 unfoldable pub soundState : ℕ → ℕ → State → Bool
 soundState w last s =
     eqb (rosterNumber (s .node .faults) (s .node .own) (serialsIn (s .rows))) 0

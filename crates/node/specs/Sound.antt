@@ -1,4 +1,4 @@
--- A sound image, condition by condition in the paper's words (01, "One delivery" and row 8 of "Numbers given back"), as plain
+-- A sound image, condition by condition in the paper's words (01, "One delivery" and row 8 of "Numbers given back", and 02, A7), as plain
 -- propositions: no test but `holds` of the sets, and no count. proofs/Conditions.antt shows that `soundImage` decides just this.
 use mathlib.Core.Path.{_≡_}
 use mathlib.Core.Logic.{_≢_}
@@ -6,7 +6,7 @@ use mathlib.Core.List.{List, List·Memᴰ}
 use Prim.Native.Nat.{ℕ, _≤_, _<_}
 use lib.ListN.{length, getD}
 use Rattle.fields.specs.Field.{field}
-use Rattle.forms.specs.Table.{_or_, Beyond, HasZero, Twice, Stranger}
+use Rattle.forms.specs.Table.{_or_, Beyond, Understated, HasZero, Twice, Stranger}
 use Rattle.sets.specs.Ticks.{Held, bit}
 use Rattle.evidence.specs.Rows.{Row}
 use Rattle.evidence.specs.Serials.{serialsIn}
@@ -35,8 +35,9 @@ pub record SoundImage (L : Layout) (last : ℕ) (b : List ℕ) : Type 0 where
   pub offset : field 2 b 16 ≡ headerSize
   pub size : field 2 b 18 ≡ imageSize L (nodeOf b .lines)
   pub zeros : (i : ℕ) → 20 ≤ i → i < headerSize → getD b i 0 ≡ 0
-  -- a roster that 2 to 5 would accept
+  -- a roster that 2, 21, 3, 4 and 5 would accept
   pub limits : Beyond (nodeOf b .lines) (nodeOf b .faults) → ⊥
+  pub full : Understated (nodeOf b .lines) (nodeOf b .faults) → ⊥
   pub no-zero : HasZero (nodeOf b .own) (serialsIn (rowsOf L b)) → ⊥
   pub no-twin : Twice (serialsIn (rowsOf L b)) → ⊥
   pub own-listed : Stranger (nodeOf b .own) (serialsIn (rowsOf L b)) → ⊥

@@ -11,7 +11,7 @@ use Rattle.rules.specs.Describe.{room}
 use Rattle.node.specs.Image.{Layout, modePlace, imageSize, rosterIn}
 use Rattle.node.specs.Sound.{SoundImage}
 
--- 1 to 5 of the form, 6, 7
+-- the form's own, 6, 7
 abbrev pub bootChecks : Layout → List ℕ → List ℕ → List ℕ → List Check
 bootChecks L form image out =
     formChecks form ++ 6 when (length image < imageSize L (linesOf form))

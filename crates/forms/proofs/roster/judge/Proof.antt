@@ -3,14 +3,15 @@
 use borrow.Author.Needs.{needs}
 use mathlib.Core.Path.{_≡_, sym}
 use mathlib.Core.List.{List}
-use Prim.Native.Nat.{ℕ}
+use Prim.Native.Nat.{ℕ, _≤_}
 use native.Mathlib.Omega.{arith}
 use denote.Ref.{now}
 use lib.ListN.{length}
 use Rattle.fields.specs.Field.{words}
-use Rattle.forms.specs.Roster.{rosterNumber}
+use Rattle.forms.specs.Roster.{fullFaults, rosterNumber}
 use Rattle.fields.proofs.Words.{length-words}
-use Rattle.forms.proofs.Rosters.{Limits, roster-two, roster-own, roster-zero, roster-twice, roster-stranger, roster-sound}
+use Rattle.forms.proofs.Rosters.{Limits, roster-two, roster-understated, roster-own, roster-zero, roster-twice}
+use Rattle.forms.proofs.Rosters.{roster-stranger, roster-sound}
 use Rattle.forms.proofs.roster.judge.Statement.{statement}
 use Rattle.forms.proofs.roster.judge.Tie as tie
 
@@ -47,39 +48,51 @@ limits c = omega (arith, size (c .before .before .before .before))
 returns-4 : tie.Need-returns-4
 returns-4 c =
     let d = c .before .before .before .before .before in
-    sym (roster-own (d .args .f) (d .args .own) (serials d) (limits (c .before)) (c .if4 .taken))
+    sym (roster-understated (d .args .f) (d .args .own) (serials d) (limits (c .before)) (omega (arith, size d)))
+
+-- past the fourth f is all that n allows
+stated : (c : tie.Else4) → let d = c .before .before .before .before .before in fullFaults (length (serials d)) ≤ d .args .f
+stated c = omega (arith, size (c .before .before .before .before .before))
+
+returns-5 : tie.Need-returns-5
+returns-5 c =
+    let d = c .before .before .before .before .before .before in
+    sym (roster-own (d .args .f) (d .args .own) (serials d) (limits (c .before .before)) (stated (c .before)) (c .if5 .taken))
 
 count-word-requires : tie.Need-count-word-requires
 count-word-requires c κs = search needs
 
-returns-5 : tie.Need-returns-5
-returns-5 c =
-    let d = c .before .before .before .before .before .before .before in
-    sym (roster-zero (d .args .f) (d .args .own) (serials d) (limits (c .before .before .before)) (omega arith))
+returns-6 : tie.Need-returns-6
+returns-6 c =
+    let d = c .before .before .before .before .before .before .before .before in
+    let e = c .before .before .before in
+    sym (roster-zero (d .args .f) (d .args .own) (serials d) (limits (e .before)) (stated e) (omega arith))
 
 count-twins-requires : tie.Need-count-twins-requires
 count-twins-requires c κs = search needs
 
-returns-6 : tie.Need-returns-6
-returns-6 c =
-    let d = c .before .before .before .before .before .before .before .before .before in
-    let l = limits (c .before .before .before .before .before) in
-    sym (roster-twice (d .args .f) (d .args .own) (serials d) l (omega arith) (omega arith) (omega arith))
+returns-7 : tie.Need-returns-7
+returns-7 c =
+    let d = c .before .before .before .before .before .before .before .before .before .before in
+    let e = c .before .before .before .before .before in
+    sym (roster-twice (d .args .f) (d .args .own) (serials d) (limits (e .before)) (stated e) (omega arith) (omega arith) (omega arith))
 
 count-word-requires-2 : tie.Need-count-word-requires-2
 count-word-requires-2 c κs = search needs
 
-returns-7 : tie.Need-returns-7
-returns-7 c =
-    let d = c .before .before .before .before .before .before .before .before .before .before .before in
-    let l = limits (c .before .before .before .before .before .before .before) in
-    sym (roster-stranger (d .args .f) (d .args .own) (serials d) l (omega arith) (omega arith) (omega arith) (omega arith))
-
 returns-8 : tie.Need-returns-8
 returns-8 c =
-    let d = c .before .before .before .before .before .before .before .before .before .before .before in
-    let l = limits (c .before .before .before .before .before .before .before) in
-    sym (roster-sound (d .args .f) (d .args .own) (serials d) l (omega arith) (omega arith) (omega arith) (omega arith))
+    let d = c .before .before .before .before .before .before .before .before .before .before .before .before in
+    let e = c .before .before .before .before .before .before .before in
+    let l = limits (e .before) in
+    sym (roster-stranger (d .args .f) (d .args .own) (serials d) l (stated e) (omega arith) (omega arith) (omega arith) (omega arith))
+
+returns-9 : tie.Need-returns-9
+returns-9 c =
+    let d = c .before .before .before .before .before .before .before .before .before .before .before .before in
+    let e = c .before .before .before .before .before .before .before in
+    let l = limits (e .before) in
+    sym (roster-sound (d .args .f) (d .args .own) (serials d) l (stated e) (omega arith) (omega arith) (omega arith) (omega arith))
 
 pub judge-spec : {M : Type 1} → statement M
 judge-spec =
@@ -91,10 +104,11 @@ judge-spec =
     add-if3
     returns-3
     returns-4
-    count-word-requires
     returns-5
-    count-twins-requires
+    count-word-requires
     returns-6
-    count-word-requires-2
+    count-twins-requires
     returns-7
-    returns-8)
+    count-word-requires-2
+    returns-8
+    returns-9)

@@ -2,7 +2,7 @@
 -- decides.
 -- Assumes nothing.
 use borrow.Author.Needs.{needs}
-use mathlib.Core.Path.{_≡_, ap, _∙_}
+use mathlib.Core.Path.{_≡_, sym, ap, _∙_}
 use mathlib.Core.Bool.{_&&_}
 use mathlib.Core.List.{List}
 use Prim.Native.Nat.{ℕ}
@@ -44,7 +44,8 @@ judged : (c : tie.After-judge) →
     rosterNumber (a .node .faults) (a .node .own) (serialsIn (held (a .node) (now (a .b)))) ≡ verdictOf (c .judge .result)
 judged c =
     let a = c .before .before .before .args in
-    rw (serials-of-rows maskBytes (a .node .lines) (now (a .b)) headerSize, ← c .judge .ensures)
+    ap (rosterNumber (a .node .faults) (a .node .own)) (serials-of-rows maskBytes (a .node .lines) (now (a .b)) headerSize)
+    ∙ sym (c .judge .ensures)
 
 returns : tie.Need-returns
 unfolding soundState

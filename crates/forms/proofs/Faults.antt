@@ -1,17 +1,19 @@
 -- What the full fault number buys (02, A7). Of the fault numbers that could stand in a form, one is taken: with a greater one the form
--- is refused with 2, with a smaller one with 21. And n - f is more than half of n + f: two groups of n - f controllers have more than f
--- in common, so one of those at least is not faulty, whichever f are.
+-- is refused with 2, with a smaller one with 21. And n - f is more than half of n + f, so two groups of n - f controllers share one that
+-- is not faulty.
 -- Assumes nothing.
 use mathlib.Core.Path.{_≡_, sym, _∙_}
+use mathlib.Core.Bool.{Bool}
 use mathlib.Core.List.{List}
 use Prim.Native.Nat.{ℕ, _+_, _-_, _*_, _≤_, _<_}
 use native.Mathlib.Omega.{arith}
-use lib.ListN.{length, getD}
-use Rattle.fields.specs.Field.{field}
+use lib.ListN.{getD}
 use Rattle.fields.proofs.Fields.{field-byte, field-put, field-put-other, getD-put-other, length-put}
 use Rattle.fields.proofs.Words.{length-words, words-same}
-use Rattle.forms.specs.Form.{serialsPlace, linesOf, faultsOf, ownOf, serialsOf, restated, misplaced, formNumber}
+use Rattle.forms.specs.Form.{serialsPlace, linesOf, faultsOf, ownOf, serialsOf, restated, formNumber}
+use Rattle.forms.specs.Groups.{howMany, Shared}
 use Rattle.forms.specs.Roster.{fullFaults, rosterNumber}
+use Rattle.forms.proofs.Groups.{share}
 use Rattle.forms.proofs.Rosters.{roster-limits, roster-full, roster-two, roster-understated}
 use Rattle.forms.proofs.Told.{taken-parts, form-length, form-roster}
 
@@ -19,11 +21,11 @@ use Rattle.forms.proofs.Told.{taken-parts, form-length, form-roster}
 
 module _ (f own : ℕ) (serials : List ℕ) (taken : rosterNumber f own serials ≡ 0) where
   -- no greater fault number could stand in it
-  pub greater-beyond : (g : ℕ) → f < g → rosterNumber g own serials ≡ 2
+  greater-beyond : (g : ℕ) → f < g → rosterNumber g own serials ≡ 2
   greater-beyond g p = roster-two g own serials (λ l. omega (arith, roster-full f own serials taken, l))
 
   -- and no smaller one
-  pub smaller-understated : (g : ℕ) → g < f → rosterNumber g own serials ≡ 21
+  smaller-understated : (g : ℕ) → g < f → rosterNumber g own serials ≡ 21
   smaller-understated g p =
       let l = roster-limits f own serials taken in
       roster-understated g own serials (omega (arith, l)) (omega (arith, roster-full f own serials taken))
@@ -40,6 +42,15 @@ module _ (b : List ℕ) (taken : formNumber b ≡ 0) where
   form-majority =
       let limits = roster-limits (faultsOf b) (ownOf b) (serialsOf b) (form-roster b taken) in
       omega (arith, limits, length-words (linesOf b) 4 b serialsPlace)
+
+  -- so two groups of n - f share one that is not faulty, whichever f are
+  pub form-shared : (one other faulty : ℕ → Bool) →
+      linesOf b - faultsOf b ≤ howMany one (serialsOf b) →
+      linesOf b - faultsOf b ≤ howMany other (serialsOf b) →
+      howMany faulty (serialsOf b) ≤ faultsOf b →
+      Shared one other faulty (serialsOf b)
+  form-shared one other faulty p q r =
+      share one other faulty (serialsOf b) (omega (arith, form-majority, length-words (linesOf b) 4 b serialsPlace))
 
   -- with another fault number in the place of its own
   module _ (g : ℕ) (fits : g < 256) where

@@ -4,6 +4,7 @@ mod Examples
 pub mod Faults
 pub mod FrameTrip
 pub mod Frames
+pub mod Groups
 pub mod Meaning
 pub mod Order
 pub mod Rosters

@@ -2,11 +2,12 @@
 -- tick in service. What the words of a statement mean is in specs/: `booted`, `deliverOutcome` and `reading` in Calls, the rows of the
 -- table of numbers in Table, what a call leaves in After, what was heard in Heard, what was sent and taken in Traffic, a truck's whole
 -- life in Runs; in specs/ of rules `delivered` and `settled` in Delivery, `settle` in Rules, `mostFirings` and `room` in Describe, who
--- answers whom in Answering. That the code gives just these outcomes, for every input, is the contract of each call (src/calls.rt). The
--- proofs are short here and stand in the files named.
+-- answers whom in Answering; in specs/ of forms `fullFaults` in Roster, `restated` in Form, `howMany` and `Shared` in Groups. That the
+-- code gives just these outcomes, for every input, is the contract of each call (src/calls.rt). The proofs are short here and stand in
+-- the files named.
 -- Assumes nothing.
 use mathlib.Core.Path.{_≡_, refl, sym, ap, _∙_, subst}
-use mathlib.Core.Bool.{true}
+use mathlib.Core.Bool.{Bool, true}
 use mathlib.Core.Logic.{_↔_, _≢_, _⊎_}
 use mathlib.Core.List.{List, [], _∷_, _++_, List·Memᴰ}
 use Prim.Native.Nat.{ℕ, _+_, _-_, _*_, _≤_, _<_}
@@ -15,15 +16,16 @@ use lib.ListN.{length, getD}
 use lib.Dec.{lit<}
 use Rattle.fields.specs.Field.{Bytes}
 use Rattle.fields.specs.Kind.{INIT, ECHO}
-use Rattle.forms.specs.Form.{linesOf, faultsOf, formNumber, restated, Reordered}
+use Rattle.forms.specs.Form.{linesOf, faultsOf, serialsOf, formNumber, restated, Reordered}
 use Rattle.forms.specs.Frame.{ANSWER, frameAt}
+use Rattle.forms.specs.Groups.{howMany, Shared}
 use Rattle.forms.specs.Number.{numberOf}
 use Rattle.forms.specs.Roster.{fullFaults}
 use Rattle.forms.specs.Table.{KnownHead, Says, Twice, Understated}
 use Rattle.forms.specs.declared.answer.Refusal.{Refusal}
 use Rattle.forms.specs.declared.answer.Refusal.the-variants as refusal
 use Rattle.forms.specs.declared.frame.Frame.{Frame}
-use Rattle.forms.proofs.Faults.{form-full, form-majority, form-greater, form-smaller}
+use Rattle.forms.proofs.Faults.{form-full, form-majority, form-shared, form-greater, form-smaller}
 use Rattle.forms.proofs.Told.{none-given}
 use Rattle.evidence.specs.Holders.{heldUnder}
 use Rattle.evidence.specs.Rows.{Row}
@@ -136,12 +138,21 @@ module _ (form image out : List ℕ) where
       refuses : (why : Refusal) → formNumber other ≡ numberOf why → booted layout other image out .number ≡ numberOf why
       refuses why e = boot-told layout other image out ∙ form-refuses layout other (length image) (length out) why e
 
-  -- For sales. n - f is more than half of n + f: two groups of n - f controllers have more than f in common, so one at least that
-  -- is not faulty
+  -- For sales. n - f is more than half of n + f
   pub boot-keeps-a-majority :
       boots .number ≡ 0
       → linesOf form + faultsOf form < 2 * (linesOf form - faultsOf form)
   boot-keeps-a-majority ok = form-majority form (form-in-order ok)
+
+  -- so two groups of n - f controllers share one that is not faulty, whichever f are (003, where R3 asks n - f)
+  pub two-groups-share-a-correct-one :
+      boots .number ≡ 0
+      → (one other faulty : ℕ → Bool)
+      → linesOf form - faultsOf form ≤ howMany one (serialsOf form)
+      → linesOf form - faultsOf form ≤ howMany other (serialsOf form)
+      → howMany faulty (serialsOf form) ≤ faultsOf form
+      → Shared one other faulty (serialsOf form)
+  two-groups-share-a-correct-one ok = form-shared form (form-in-order ok)
 
   -- No rule fires at boot (02, A6)
   pub boot-fires-none : boots .fired ≡ 0

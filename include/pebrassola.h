@@ -40,9 +40,10 @@ extern "C" {
 #define PEBRASSOLA_LAST_TICK 4000000000u
 
 /*
- * The f that a form of n controllers, 1 to 32, has to state: the most faulty ones that n allows, (n - 1) / 3 rounded down. With a smaller
- * f a few faulty controllers that the others could have outvoted may move the clock. An image has to state it, too: one that an older
- * archive booted with a smaller f is refused with 8 for good, and its controller is booted again, with a form that states this f.
+ * The f that a form of n controllers, 1 to 32, has to state: the greatest number of faulty ones that n allows, (n - 1) / 3 rounded down.
+ * With a smaller f, f + 1 faulty controllers could move the others' clocks although n allows for more of them. An image has to state it,
+ * too: one that an older archive booted with a smaller f is refused with 8 for good. Boot every controller of such a truck again, with
+ * forms that state this f; their clocks begin at 0.
  */
 #define PEBRASSOLA_FULL_FAULTS(n) (((n) - 1u) / 3u)
 
@@ -83,14 +84,14 @@ extern "C" {
 #define PEBRASSOLA_PROVED_RECORDS(n) ((n) < 2 ? 7u : 5u)
 
 /*
- * The number given back; the first that applies, in the order that each call names. Of a form that is 1, 2, 21, 3, 4, 5, the order in
- * which they stand here.
+ * The number given back; the first that applies, in the order that each call names. For a form the order is 1, 2, 21, 3, 4, 5, as they
+ * stand here.
  */
 enum pebrassola_number {
     PEBRASSOLA_DONE = 0,              /* success */
     PEBRASSOLA_FORM_LAYOUT = 1,       /* form shorter than 8, offset not 8, or length not 8 + 4n */
     PEBRASSOLA_FORM_LIMITS = 2,       /* n not 1..32, or f greater than n allows: n < 3f + 1 */
-    PEBRASSOLA_FORM_UNDERSTATED = 21, /* f less than n allows: not (n - 1) / 3 rounded down */
+    PEBRASSOLA_FORM_UNDERSTATED = 21, /* f less than n allows: below (n - 1) / 3 rounded down */
     PEBRASSOLA_FORM_ZERO = 3,         /* a serial or the own serial is 0 */
     PEBRASSOLA_FORM_TWICE = 4,        /* a serial stands twice */
     PEBRASSOLA_FORM_OWN = 5,          /* own serial not in the list */

@@ -12,7 +12,7 @@
 #include "pebrassola.h"
 #include "words.h"
 
-enum { BOOT, DELIVER, READ, CALLS, NUMBERS = 22 };
+enum { BOOT, DELIVER, READ, CALLS, NUMBERS = 64 };
 
 static const char *const names[CALLS] = {"boot", "deliver", "read"};
 static struct node_calls counted;
@@ -31,7 +31,7 @@ static void lend_all(const uint8_t *given, size_t length, const uint8_t *kept, s
 
 static uint32_t compare(unsigned call, uint32_t number, uint32_t value, uint32_t fired, struct model_result m, uint8_t *kept)
 {
-    came[call][m.number]++;
+    if (m.number < NUMBERS) came[call][m.number]++;
     check(names[call], number == m.number && value == m.value && fired == m.fired && same(&image) && same(&out) && same(&in));
     if (image.plain.length) memcpy(kept, body(&image.plain), image.plain.length);
     return m.number;

@@ -444,7 +444,7 @@ static void full_faults(void)
     }
 }
 
-/* an active node of 7 controllers in which nothing is held, so that no rule can fire whatever f is; its image states this one */
+/* an active node of 7 controllers in which nothing is held, so that no rule can fire with any f below 7; its image states this one */
 static void images_of(const char *call, unsigned f)
 {
     image[1] = (uint8_t)f;

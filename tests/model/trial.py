@@ -300,8 +300,8 @@ def rosters():
 
 
 def faults():
-    """Images that state less than the full f, or more, and the sound ones that they are made from: nothing is held in them, so that no
-    rule can fire whatever f is."""
+    """Images that state less than the full f, or more, and the sound ones that they are made from. Nothing is held in them, so that no
+    rule can fire with these f, but R3 with f = 1 of 1."""
     for n, beside in ((1, (1,)), (2, (1,)), (3, (1,)), (4, (0, 2)), (7, (0, 1, 3)), (32, (0, 9, 11))):
         full = (n - 1) // 3
         boot(f"faults-{n}", make_form(full, n, range(1, n + 1)), 32 + 28 * n)

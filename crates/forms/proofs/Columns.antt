@@ -1,7 +1,8 @@
--- Laws of a column of words: its counts and its pairs line by line, and a column that ascends, of which no number stands twice.
+-- Laws of counts: what a count of those that pass a test means; of a column of words its counts and its pairs line by line, and a column
+-- that ascends, of which no number stands twice.
 -- Assumes nothing.
 use mathlib.Core.Path.{_≡_, refl, sym, ap, _∙_}
-use mathlib.Core.List.{List, [], _∷_}
+use mathlib.Core.List.{List, [], _∷_, List·Memᴰ, List·Memᴰ·head, List·Memᴰ·tail}
 use mathlib.Core.Bool.{Bool, true, false, cond, _&&_, and-eq-true-iff}
 use Prim.Native.Nat.{ℕ, zero, suc, _+_, _-_, _≤_, _<_}
 use native.Mathlib.Omega.{arith}
@@ -9,8 +10,31 @@ use lib.Dec.{ltb, eqb}
 use lib.ListN.{length}
 use borrow.Author.Tests.{lt-ltb, le-ltb, ltb-true, eqb-true, eq-eqb, ne-eqb}
 use Rattle.fields.specs.Field.{field, words}
-use Rattle.forms.specs.Column.{count, twins, ascends}
+use Rattle.forms.specs.Column.{howMany, count, twins, ascends}
 use Rattle.fields.proofs.Words.{words-step, words-end}
+
+-- ---- how many pass a test
+
+module _ {A : Type 0} (test : A → Bool) where
+  -- one of the list that passes
+  abbrev pub Passes : List A → Type 0
+  Passes l = (x : A) × List·Memᴰ x l × (test x ≡ true)
+
+  -- it is counted
+  pub passing-counted : {x : A} {l : List A} → List·Memᴰ x l → test x ≡ true → 0 < howMany test l
+  unfolding howMany
+  passing-counted (List·Memᴰ·head e) t = rw (ap test (sym e) ∙ t) (omega arith)
+  passing-counted (List·Memᴰ·tail m) t = omega (arith, passing-counted m t)
+
+  -- and where one is counted, one passes
+  pub passing-found : (l : List A) → 0 < howMany test l → Passes l
+  unfolding howMany
+  passing-found [] p = absurd (omega arith)
+  passing-found (x ∷ l) p = go (test x) refl (passing-found l) p
+    where
+      go : (t : Bool) → test x ≡ t → (0 < howMany test l → Passes l) → 0 < cond t 1 0 + howMany test l → Passes (x ∷ l)
+      go true h below q = (x, List·Memᴰ·head refl, h)
+      go false h below q = let y = below (omega arith) in (y .0, List·Memᴰ·tail (y .1), y .2)
 
 -- ---- counts
 

@@ -53,7 +53,7 @@ statedFrom : ℕ → ℕ → ℕ → List ℕ
 statedFrom n least zero = []
 statedFrom n least (suc more) = rosterNumber least 1 (serialsTo n) ∷ statedFrom n (suc least) more
 
--- one fault number is taken for each n, the greatest that n allows (02, A7): 21 below it, 2 above
+-- for each of these n one fault number is taken, the greatest that n allows (02, A7): 21 below it, 2 above
 full-ones :
     (statedFrom 1 0 2 ≡ 0 ∷ 2 ∷ []) × (statedFrom 2 0 2 ≡ 0 ∷ 2 ∷ []) × (statedFrom 3 0 2 ≡ 0 ∷ 2 ∷ [])
     × (statedFrom 4 0 3 ≡ 21 ∷ 0 ∷ 2 ∷ []) × (statedFrom 6 0 3 ≡ 21 ∷ 0 ∷ 2 ∷ []) × (statedFrom 7 0 4 ≡ 21 ∷ 21 ∷ 0 ∷ 2 ∷ [])

@@ -1,6 +1,6 @@
--- What the full fault number buys (02, A7). Of the fault numbers that could stand in a form, one is taken: with a greater one the form
--- is refused with 2, with a smaller one with 21. And n - f is more than half of n + f, so two groups of n - f controllers share one that
--- is not faulty.
+-- What the full fault number buys (02, A7). It is the greatest f that n allows, and the greatest for which n - f is more than half of
+-- n + f, so that two groups of n - f controllers share one that is not faulty. Of the fault numbers that could stand in a form it alone is
+-- taken: with a greater one the form is refused with 2, with a smaller one with 21.
 -- Assumes nothing.
 use mathlib.Core.Path.{_≡_, sym, _∙_}
 use mathlib.Core.Bool.{Bool}
@@ -10,12 +10,19 @@ use native.Mathlib.Omega.{arith}
 use lib.ListN.{getD}
 use Rattle.fields.proofs.Fields.{field-byte, field-put, field-put-other, getD-put-other, length-put}
 use Rattle.fields.proofs.Words.{length-words, words-same}
+use Rattle.forms.specs.Column.{howMany}
 use Rattle.forms.specs.Form.{serialsPlace, linesOf, faultsOf, ownOf, serialsOf, restated, formNumber}
-use Rattle.forms.specs.Groups.{howMany, Shared}
+use Rattle.forms.specs.Groups.{Shared}
 use Rattle.forms.specs.Roster.{fullFaults, rosterNumber}
 use Rattle.forms.proofs.Groups.{share}
 use Rattle.forms.proofs.Rosters.{roster-limits, roster-full, roster-two, roster-understated}
 use Rattle.forms.proofs.Told.{taken-parts, form-length, form-roster}
+
+-- ---- the number itself
+
+-- n allows it, and no greater one
+pub full-allowed : (n : ℕ) → 1 ≤ n → (3 * fullFaults n + 1 ≤ n) × (n < 3 * (fullFaults n + 1) + 1)
+full-allowed n p = omega arith
 
 -- ---- a roster that is taken
 
@@ -42,6 +49,10 @@ module _ (b : List ℕ) (taken : formNumber b ≡ 0) where
   form-majority =
       let limits = roster-limits (faultsOf b) (ownOf b) (serialsOf b) (form-roster b taken) in
       omega (arith, limits, length-words (linesOf b) 4 b serialsPlace)
+
+  -- and no greater number in the place of f would have that
+  pub form-no-more : (g : ℕ) → faultsOf b < g → 2 * (linesOf b - g) ≤ linesOf b + g
+  form-no-more g p = omega (arith, form-full)
 
   -- so two groups of n - f share one that is not faulty, whichever f are
   pub form-shared : (one other faulty : ℕ → Bool) →

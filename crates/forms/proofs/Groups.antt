@@ -1,13 +1,14 @@
--- Two groups of a roster that are large enough share a controller that is not faulty, whichever the faulty ones are.
+-- Two groups of a roster that are large enough share a controller that is not faulty, whichever the faulty ones are (003, Lemma A.1).
 -- Assumes nothing.
-use mathlib.Core.Path.{_≡_, refl}
 use mathlib.Core.Bool.{Bool, true, false, cond, not, _&&_, and-eq-true-iff}
-use mathlib.Core.List.{List, [], _∷_, List·Memᴰ, List·Memᴰ·head, List·Memᴰ·tail}
+use mathlib.Core.List.{List, [], _∷_}
 use Prim.Native.Nat.{ℕ, _+_, _≤_, _<_}
 use native.Mathlib.Omega.{arith}
 use lib.ListN.{length}
 use borrow.Author.Tests.{not-true}
-use Rattle.forms.specs.Groups.{howMany, Shared}
+use Rattle.forms.specs.Column.{howMany}
+use Rattle.forms.specs.Groups.{Shared}
+use Rattle.forms.proofs.Columns.{passing-found}
 
 abbrev both : (ℕ → Bool) → (ℕ → Bool) → ℕ → Bool
 both p q x = p x && q x
@@ -37,23 +38,12 @@ left p q (x ∷ l) = omega (arith, here (p x) (q x), left p q l)
     here true false = omega arith
     here false t = omega arith
 
--- a group that some belong to has a member
-member : (p : ℕ → Bool) (l : List ℕ) → 0 < howMany p l → (x : ℕ) × List·Memᴰ x l × (p x ≡ true)
-unfolding howMany
-member p [] h = absurd (omega arith)
-member p (x ∷ l) h = go (p x) refl (member p l) h
-  where
-    go : (t : Bool) → p x ≡ t → (0 < howMany p l → (y : ℕ) × List·Memᴰ y l × (p y ≡ true)) → 0 < cond t 1 0 + howMany p l →
-        (y : ℕ) × List·Memᴰ y (x ∷ l) × (p y ≡ true)
-    go true e below h = (x, List·Memᴰ·head refl, e)
-    go false e below h = let m = below (omega arith) in (m .0, List·Memᴰ·tail (m .1), m .2)
-
--- groups of which both together are more than the list and the faulty ones share one that is not faulty
+-- two groups that together are more than the roster and the faulty ones share one that is not faulty
 pub share : (one other faulty : ℕ → Bool) (roster : List ℕ) →
     length roster + howMany faulty roster < howMany one roster + howMany other roster →
     Shared one other faulty roster
 share one other faulty roster h =
-    let m = member (without (both one other) faulty) roster
+    let m = passing-found (without (both one other) faulty) roster
     (omega (arith, overlap one other roster, left (both one other) faulty roster)) in
     let found = and-eq-true-iff _ _ .0 (m .2) in
     let groups = and-eq-true-iff _ _ .0 (found .0) in

@@ -73,7 +73,7 @@ n when C = record { number = n; applies = C }
 
 -- what it means that the checks, made one after the other, give k. If k is the number of the first: that it applies. If not:
 -- that it does not apply, and the others give k. Where no check is left, k is 0. At a numeral this computes: of a roster,
--- 4 is given where number 2's and number 3's conditions fail and number 4's holds
+-- 4 is given where the conditions of 2, 21 and 3 fail and that of 4 holds
 abbrev pub Given : List Check → ℕ → Type 0
 Given [] k = k ≡ 0
 Given (check ∷ others) k = cond (eqb k (check .number)) (check .applies) ((check .applies → ⊥) × Given others k)

@@ -7,7 +7,7 @@ pub enum Refusal {
     Layout,
     // n not 1..32, or n < 3f + 1
     Limits,
-    // f less than n allows: not (n - 1) / 3 rounded down
+    // f less than n allows: below (n - 1) / 3 rounded down
     Understated,
     // a serial or the own serial is 0
     Zero,

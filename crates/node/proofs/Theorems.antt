@@ -2,9 +2,9 @@
 -- tick in service. What the words of a statement mean is in specs/: `booted`, `deliverOutcome` and `reading` in Calls, the rows of the
 -- table of numbers in Table, what a call leaves in After, what was heard in Heard, what was sent and taken in Traffic, a truck's whole
 -- life in Runs; in specs/ of rules `delivered` and `settled` in Delivery, `settle` in Rules, `mostFirings` and `room` in Describe, who
--- answers whom in Answering; in specs/ of forms `fullFaults` in Roster, `restated` in Form, `howMany` and `Shared` in Groups. That the
--- code gives just these outcomes, for every input, is the contract of each call (src/calls.rt). The proofs are short here and stand in
--- the files named.
+-- answers whom in Answering; in specs/ of forms `fullFaults` in Roster, `restated` in Form, `howMany` in Column, `Shared` in Groups.
+-- That the code gives just these outcomes, for every input, is the contract of each call (src/calls.rt). The proofs are short here and
+-- stand in the files named.
 -- Assumes nothing.
 use mathlib.Core.Path.{_≡_, refl, sym, ap, _∙_, subst}
 use mathlib.Core.Bool.{Bool, true}
@@ -16,17 +16,17 @@ use lib.ListN.{length, getD}
 use lib.Dec.{lit<}
 use Rattle.fields.specs.Field.{Bytes}
 use Rattle.fields.specs.Kind.{INIT, ECHO}
+use Rattle.forms.specs.Column.{howMany}
 use Rattle.forms.specs.Form.{linesOf, faultsOf, serialsOf, formNumber, restated, Reordered}
 use Rattle.forms.specs.Frame.{ANSWER, frameAt}
-use Rattle.forms.specs.Groups.{howMany, Shared}
+use Rattle.forms.specs.Groups.{Shared}
 use Rattle.forms.specs.Number.{numberOf}
 use Rattle.forms.specs.Roster.{fullFaults}
 use Rattle.forms.specs.Table.{KnownHead, Says, Twice, Understated}
 use Rattle.forms.specs.declared.answer.Refusal.{Refusal}
 use Rattle.forms.specs.declared.answer.Refusal.the-variants as refusal
 use Rattle.forms.specs.declared.frame.Frame.{Frame}
-use Rattle.forms.proofs.Faults.{form-full, form-majority, form-shared, form-greater, form-smaller}
-use Rattle.forms.proofs.Told.{none-given}
+use Rattle.forms.proofs.Faults.{form-full, form-majority, form-no-more, form-shared, form-greater, form-smaller}
 use Rattle.evidence.specs.Holders.{heldUnder}
 use Rattle.evidence.specs.Rows.{Row}
 use Rattle.evidence.specs.Serials.{serialsIn}
@@ -46,8 +46,7 @@ use Rattle.rules.proofs.Every.{every-member}
 use Rattle.rules.proofs.Which.{which-says}
 use Rattle.node.specs.After.{Begins, Follows, InRow}
 use Rattle.node.specs.Answers.{outcomeBy, readingBy}
-use Rattle.node.specs.Calls.{Outcome, refused, bootNumber, booted, deliverNumber, deliveryOf, deliverDone, deliverOutcome}
-use Rattle.node.specs.Calls.{unread, reading}
+use Rattle.node.specs.Calls.{Outcome, refused, booted, deliverNumber, deliveryOf, deliverDone, deliverOutcome, unread, reading}
 use Rattle.node.specs.Calls.{Reading as Told}
 use Rattle.node.specs.Heard.{imageLeft, accepted}
 use Rattle.node.specs.Image.{modePlace, tickPlace, sentPlace}
@@ -71,7 +70,7 @@ use Rattle.node.proofs.Outcomes.{boot-told, boot-done, boot-refused, de
 use Rattle.node.proofs.Outcomes.{read-done, read-refused}
 use Rattle.node.proofs.SoundImages.{in-service, boot-sound}
 use Rattle.node.proofs.SoundImages.{delivery-sound, delivery-ordered, delivery-all, delivery-below}
-use Rattle.node.proofs.Taken.{form-refuses}
+use Rattle.node.proofs.Taken.{form-refuses, boot-taken}
 use Rattle.node.proofs.Traffic.{delivery-back, flag-of-the-answer, sends-known, same-image, same-others}
 use Rattle.node.proofs.Traffic.{asks-fewer, calls-modest, life-sent, bytes-booted}
 
@@ -107,12 +106,25 @@ module _ (form image out : List ℕ) where
       let done = boot-done layout form image out (sym (boot-told layout form image out) ∙ ok) in
       (ap (λ (o : Outcome). o .records) done, ap (λ (o : Outcome). o .out) done)
 
+  -- No rule fires at boot (02, A6)
+  pub boot-fires-none : boots .fired ≡ 0
+  boot-fires-none = none-fired layout form image out
+
+  -- No buffer changes its length; bytes behind the image's size stay, and bytes behind the records
+  pub boot-keeps-lengths : (length (boots .image) ≡ length image) × (length (boots .out) ≡ length out)
+  boot-keeps-lengths = boot-lengths layout form image out
+
+  pub boot-behind-the-image : (i : ℕ) → imageSize layout (linesOf form) ≤ i → getD (boots .image) i 0 ≡ getD image i 0
+  boot-behind-the-image = boot-behind-image layout form image out
+
+  pub boot-behind-the-records : (i : ℕ) → recordSize * boots .records ≤ i → getD (boots .out) i 0 ≡ getD out i 0
+  boot-behind-the-records = boot-behind-records layout form image out
+
   -- ---- The full fault number (02, A7)
 
   -- the form that boot takes is in order
   form-in-order : boots .number ≡ 0 → formNumber form ≡ 0
-  unfolding bootNumber
-  form-in-order ok = none-given (formNumber form) _ (sym (boot-told layout form image out) ∙ ok) .0
+  form-in-order ok = boot-taken layout form (length image) (length out) (sym (boot-told layout form image out) ∙ ok) .roster
 
   -- For sales. A truck starts with the most faults declared that its number of controllers allows
   pub boot-declares-all :
@@ -138,13 +150,20 @@ module _ (form image out : List ℕ) where
       refuses : (why : Refusal) → formNumber other ≡ numberOf why → booted layout other image out .number ≡ numberOf why
       refuses why e = boot-told layout other image out ∙ form-refuses layout other (length image) (length out) why e
 
-  -- For sales. n - f is more than half of n + f
+  -- For sales. n - f is more than half of n + f, and with more faults than f that would not be so
   pub boot-keeps-a-majority :
       boots .number ≡ 0
       → linesOf form + faultsOf form < 2 * (linesOf form - faultsOf form)
   boot-keeps-a-majority ok = form-majority form (form-in-order ok)
 
-  -- so two groups of n - f controllers share one that is not faulty, whichever f are (003, where R3 asks n - f)
+  pub boot-bears-no-more :
+      boots .number ≡ 0
+      → (f : ℕ)
+      → faultsOf form < f
+      → 2 * (linesOf form - f) ≤ linesOf form + f
+  boot-bears-no-more ok = form-no-more form (form-in-order ok)
+
+  -- That is what it is for: two groups of n - f controllers share one that is not faulty, whichever f are (003, Lemma A.1)
   pub two-groups-share-a-correct-one :
       boots .number ≡ 0
       → (one other faulty : ℕ → Bool)
@@ -153,20 +172,6 @@ module _ (form image out : List ℕ) where
       → howMany faulty (serialsOf form) ≤ faultsOf form
       → Shared one other faulty (serialsOf form)
   two-groups-share-a-correct-one ok = form-shared form (form-in-order ok)
-
-  -- No rule fires at boot (02, A6)
-  pub boot-fires-none : boots .fired ≡ 0
-  boot-fires-none = none-fired layout form image out
-
-  -- No buffer changes its length; bytes behind the image's size stay, and bytes behind the records
-  pub boot-keeps-lengths : (length (boots .image) ≡ length image) × (length (boots .out) ≡ length out)
-  boot-keeps-lengths = boot-lengths layout form image out
-
-  pub boot-behind-the-image : (i : ℕ) → imageSize layout (linesOf form) ≤ i → getD (boots .image) i 0 ≡ getD image i 0
-  boot-behind-the-image = boot-behind-image layout form image out
-
-  pub boot-behind-the-records : (i : ℕ) → recordSize * boots .records ≤ i → getD (boots .out) i 0 ≡ getD out i 0
-  boot-behind-the-records = boot-behind-records layout form image out
 
 -- ---- Deliver
 
@@ -188,7 +193,7 @@ module _ (image : List ℕ) (port : ℕ) (frame out : List ℕ) where
       let told = deliver-told layout lastTick image port frame out in
       deliver-refused layout lastTick image port frame out (λ e. n (told ∙ e)) ∙ ap (λ (k : ℕ). refused k image out) (sym told)
 
-  -- An image that declares less than the full fault number is refused, whatever else it holds (02, A7)
+  -- An image that declares less than the full fault number is refused with 8, whatever else it holds; 7 alone comes before (02, A7)
   pub deliver-refuses-less :
       room ≤ length out
       → Understated (nodeOf image .lines) (nodeOf image .faults)
@@ -412,7 +417,7 @@ module _ (image : List ℕ) where
   pub read-refusal : (reads .number ≡ 0 → ⊥) → reads ≡ unread (reads .number)
   read-refusal = read-refused layout lastTick image
 
-  -- An image that declares less than the full fault number is refused (02, A7)
+  -- An image that declares less than the full fault number is refused with 8 (02, A7)
   pub read-refuses-less : Understated (nodeOf image .lines) (nodeOf image .faults) → reads .number ≡ 8
   read-refuses-less less = read-numbers .exactly 8 .1 (λ sound. sound .full less)
 

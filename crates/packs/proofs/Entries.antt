@@ -10,7 +10,8 @@ use lib.ListN.{length, getD}
 use lib.Dec.{lit≤}
 use Rattle.fields.specs.Field.{field, words}
 use Rattle.fields.proofs.Fields.{field-same}
-use Rattle.packs.specs.Sheet.{firstPlace, endPlace, entrySize, entryAt, entriesIn, packs, howMany, noEntry}
+use Rattle.forms.specs.Column.{howMany}
+use Rattle.packs.specs.Sheet.{firstPlace, endPlace, entrySize, entryAt, entriesIn, packs, noEntry}
 use Rattle.packs.specs.declared.sheet.Entry.{Entry}
 
 pub length-entriesIn : (n : ℕ) (b : List ℕ) (i : ℕ) → length (entriesIn n b i) ≡ n

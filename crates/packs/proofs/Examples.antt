@@ -6,12 +6,12 @@ use Prim.Native.Nat.{ℕ, _+_, _*_}
 use mathlib.Core.List.{List, [], _∷_, _++_, List·Permᴰ·swap}
 use lib.ListN.{replicate}
 use Rattle.fields.specs.Field.{field, putField}
-use Rattle.forms.specs.Column.{count, twins}
+use Rattle.forms.specs.Column.{howMany, count, twins}
 use Rattle.rules.specs.Describe.{lastTick}
 use Rattle.node.specs.Calls.{readNumber}
 use Rattle.node.specs.Image.{layout, fixedHeader, soundImage}
 use Rattle.packs.specs.Number.{notLicensed, notInForce, inForce}
-use Rattle.packs.specs.Sheet.{entrySize, mostEntries, entriesIn, entriesOf, packs, howMany, entriesNumber}
+use Rattle.packs.specs.Sheet.{entrySize, mostEntries, entriesIn, entriesOf, packs, entriesNumber}
 use Rattle.packs.specs.Sheet.{entriesPlace, misplaced, sheetNumber, sheetTold, entryOn, Reordered}
 use Rattle.packs.specs.Question.{licence, refusedPack, packNumber, packTold}
 use Rattle.packs.specs.Writer.{insert, ascending, putEntry, putEntries, putSheet, writeNumber, sheetWritten}

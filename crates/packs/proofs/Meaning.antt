@@ -3,14 +3,15 @@
 use mathlib.Core.Path.{_≡_, refl, sym, ap, _∙_, subst}
 use mathlib.Core.Logic.{_↔_, Iff·trans}
 use mathlib.Core.Bool.{Bool, true, false, cond, not, _||_, _&&_, false≢true}
-use mathlib.Core.List.{List, [], _∷_, _++_, List·Memᴰ, List·Memᴰ·head, List·Memᴰ·tail, Memᴰ·cast}
-use Prim.Native.Nat.{ℕ, _+_, _*_, _%_, _<_}
+use mathlib.Core.List.{List, _++_, List·Memᴰ, List·Memᴰ·head, List·Memᴰ·tail, Memᴰ·cast}
+use Prim.Native.Nat.{ℕ, _+_, _*_, _%_}
 use native.Mathlib.Omega.{arith}
 use lib.ListN.{length}
 use lib.Dec.{ltb, eqb}
 use borrow.Author.Tests.{ltb-true, lt-ltb, leb-true, le-leb}
-use Rattle.forms.specs.Column.{count, twins}
+use Rattle.forms.specs.Column.{howMany, count, twins}
 use Rattle.forms.specs.Table.{Check, Given, Says}
+use Rattle.forms.proofs.Columns.{Passes, passing-counted, passing-found}
 use Rattle.forms.proofs.Meaning.{Decides, less, equal, opposite, either, both, in-front, none, past, told, write-number}
 use Rattle.forms.proofs.Meaning.{member-says, twice-says}
 use Rattle.forms.proofs.RoundTrip.{refused-bytes}
@@ -22,7 +23,7 @@ use Rattle.forms.proofs.Told.{none-given}
 use Rattle.packs.specs.Number.{notLicensed, notInForce, inForce}
 use Rattle.packs.specs.Question.{covers, entryInForce, licence, PackTold, refusedPack, packNumber, packTold}
 use Rattle.packs.specs.Sheet.{entriesPlace, entrySize, mostEntries, sheetSize, countOf, offsetOf, entriesOf}
-use Rattle.packs.specs.Sheet.{packs, howMany, backward, twice, entriesNumber, misplaced, sheetNumber}
+use Rattle.packs.specs.Sheet.{packs, backward, twice, entriesNumber, misplaced, sheetNumber}
 use Rattle.packs.specs.Sheet.{SheetTold, refusedSheet, sheetTold}
 use Rattle.packs.specs.Table.{Misplaced, Unfit, BadPack, Backward, entriesChecks, sheetChecks, packChecks, sheetWriterChecks}
 use Rattle.packs.specs.Table.{Covers, InForce, OnSheet}
@@ -32,27 +33,9 @@ use Rattle.packs.proofs.Told.{sheet-told, pack-told, sound-packs}
 
 -- ---- what the counts mean
 
--- an entry of the list that passes a test
-abbrev Passes : (Entry → Bool) → List Entry → Type 0
-Passes test es = (e : Entry) × List·Memᴰ e es × (test e ≡ true)
-
-counted : (test : Entry → Bool) {e : Entry} {es : List Entry} → List·Memᴰ e es → test e ≡ true → 0 < howMany test es
-unfolding howMany
-counted test (List·Memᴰ·head e) t = rw (ap test (sym e) ∙ t) (omega arith)
-counted test (List·Memᴰ·tail m) t = omega (arith, counted test m t)
-
-found : (test : Entry → Bool) (es : List Entry) → 0 < howMany test es → Passes test es
-unfolding howMany
-found test [] p = absurd (omega arith)
-found test (e ∷ es) p = go (test e) refl (found test es) p
-  where
-    go : (t : Bool) → test e ≡ t → (0 < howMany test es → Passes test es) → 0 < cond t 1 0 + howMany test es → Passes test (e ∷ es)
-    go true h below q = (e, List·Memᴰ·head refl, h)
-    go false h below q = let x = below (omega arith) in (x .0, List·Memᴰ·tail (x .1), x .2)
-
 -- entries that pass a test are counted exactly where one stands in the list
 many-says : (test : Entry → Bool) (es : List Entry) → Decides (ltb 0 (howMany test es)) (Passes test es)
-many-says test es = Iff·trans (less 0 (howMany test es)) (found test es, λ x. counted test (x .1) (x .2))
+many-says test es = Iff·trans (less 0 (howMany test es)) (passing-found test es, λ x. passing-counted test (x .1) (x .2))
 
 -- ---- what a refusal tells
 

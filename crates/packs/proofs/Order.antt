@@ -9,13 +9,14 @@ use lib.Dec.{eqb}
 use borrow.Author.Tests.{eqb-true}
 use Rattle.fields.specs.Field.{field}
 use Rattle.fields.proofs.Fields.{field-take}
+use Rattle.forms.specs.Column.{howMany}
 use Rattle.forms.proofs.Order.{count-order, twins-order}
 use Rattle.forms.specs.Number.{orElse}
 use Rattle.node.specs.Calls.{readNumber, reading}
 use Rattle.node.specs.Image.{Layout}
 use Rattle.forms.proofs.Told.{none-given}
 use Rattle.packs.specs.Question.{entryInForce, licence, PackTold, refusedPack, packNumber, packTold}
-use Rattle.packs.specs.Sheet.{entriesPlace, entriesIn, entriesOf, howMany, backward}
+use Rattle.packs.specs.Sheet.{entriesPlace, entriesIn, entriesOf, backward}
 use Rattle.packs.specs.Sheet.{entriesNumber, misplaced, sheetNumber, sheetTold, entriesFrom, Reordered}
 use Rattle.packs.specs.Writer.{writeNumber}
 use Rattle.packs.specs.declared.sheet.Entry.{Entry}

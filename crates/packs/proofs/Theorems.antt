@@ -11,11 +11,11 @@ use Prim.Native.Nat.{ℕ, _≤_}
 use lib.ListN.{length, getD, drop}
 use Rattle.fields.specs.Field.{Bytes}
 use Rattle.forms.specs.Column.{ascends}
-use Rattle.forms.specs.Table.{Says}
+use Rattle.forms.specs.Table.{Says, Understated}
 use Rattle.rules.specs.Describe.{lastTick}
 use Rattle.node.specs.Calls.{reading}
 use Rattle.node.specs.Heard.{imageLeft}
-use Rattle.node.specs.Image.{layout}
+use Rattle.node.specs.Image.{layout, nodeOf}
 use Rattle.node.specs.Runs.{Call}
 use Rattle.packs.specs.Number.{notLicensed, notInForce, inForce}
 use Rattle.packs.specs.Question.{licence, PackTold, refusedPack, packTold, entriesSay}
@@ -68,6 +68,10 @@ module _ (sheet : List ℕ) (pack : ℕ) (image : List ℕ) where
   -- 8 and 12 of the image, then 14 to 16 of the sheet, each exactly when its row applies
   pub pack-numbers : Says (asked .number) (packChecks layout lastTick sheet image)
   pack-numbers = pack-says layout lastTick sheet pack image
+
+  -- An image that declares less than the full fault number is refused with 8 (02, A7)
+  pub pack-refuses-less : Understated (nodeOf image .lines) (nodeOf image .faults) → asked .number ≡ 8
+  pack-refuses-less less = pack-numbers .exactly 8 .1 (λ sound. sound .full less)
 
   -- A refusal says nothing of the pack
   pub pack-refused : (asked .number ≡ 0 → ⊥) → asked ≡ refusedPack (asked .number)

@@ -9,7 +9,7 @@ use native.Mathlib.Omega.{arith}
 use lib.ListN.{length, getD}
 use lib.Dec.{ltb, eqb}
 use borrow.Author.Tests.{ltb-false, eqb-true, not-false}
-use Rattle.forms.specs.Column.{count, twins}
+use Rattle.forms.specs.Column.{howMany, count, twins}
 use Rattle.node.specs.Calls.{readNumber, reading}
 use Rattle.node.specs.Image.{modePlace, soundImage}
 use Rattle.node.specs.Image.{Layout as ImageLayout}
@@ -17,7 +17,7 @@ use Rattle.packs.specs.Number.{numberOf}
 use Rattle.packs.specs.Question.{licence, packNumber, packTold, refusedPack}
 use Rattle.packs.specs.Sheet.{entriesPlace, mostEntries, sheetSize, countOf, offsetOf, entriesOf, misplaced}
 use Rattle.packs.specs.Steps.{Lines}
-use Rattle.packs.specs.Sheet.{packs, howMany, backward, entriesNumber, sheetNumber, SheetTold, sheetTold, refusedSheet}
+use Rattle.packs.specs.Sheet.{packs, backward, entriesNumber, sheetNumber, SheetTold, sheetTold, refusedSheet}
 use Rattle.packs.specs.declared.sheet.Entry.{Entry}
 use Rattle.packs.specs.declared.answer.Refusal.{Refusal}
 use Rattle.packs.specs.declared.answer.Refusal.the-variants.{Layout, Pack, Ticks, Room, Image, Passive}

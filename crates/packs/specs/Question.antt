@@ -6,11 +6,11 @@ use mathlib.Core.List.{List}
 use mathlib.Core.Bool.{Bool, cond, _&&_}
 use lib.Dec.{leb, ltb, eqb}
 use Rattle.forms.specs.Number.{orElse}
-use Rattle.forms.specs.Column.{count}
+use Rattle.forms.specs.Column.{howMany, count}
 use Rattle.node.specs.Calls.{readNumber, reading}
 use Rattle.node.specs.Image.{Layout}
 use Rattle.packs.specs.Number.{numberOf, licenceOf, notLicensed, notInForce, inForce}
-use Rattle.packs.specs.Sheet.{packs, howMany, entriesOf, sheetNumber}
+use Rattle.packs.specs.Sheet.{packs, entriesOf, sheetNumber}
 use Rattle.packs.specs.declared.question.Asked.{Asked}
 use Rattle.packs.specs.declared.question.Asked.the-variants.{Told, Refused}
 use Rattle.packs.specs.declared.sheet.Entry.{Entry}

@@ -8,7 +8,7 @@ use mathlib.Core.Bool.{Bool, cond, not, _||_}
 use lib.ListN.{length, getD, take}
 use lib.Dec.{ltb, eqb}
 use Rattle.fields.specs.Field.{field}
-use Rattle.forms.specs.Column.{count, twins}
+use Rattle.forms.specs.Column.{howMany, count, twins}
 use Rattle.packs.specs.Number.{numberOf}
 use Rattle.packs.specs.declared.sheet.Entry.{Entry}
 use Rattle.packs.specs.declared.sheet.SheetRead.{SheetRead}
@@ -61,11 +61,6 @@ entriesOf b = entriesIn (countOf b) b entriesPlace
 unfoldable pub packs : List Entry → List ℕ
 packs [] = []
 packs (e ∷ es) = e .pack ∷ packs es
-
--- how many entries pass a test
-unfoldable pub howMany : (Entry → Bool) → List Entry → ℕ
-howMany test [] = 0
-howMany test (e ∷ es) = cond (test e) 1 0 + howMany test es
 
 -- first above end. Equal ones are allowed: such a pack is never in force
 abbrev pub backward : Entry → Bool

@@ -11,9 +11,10 @@ use forms::column::count_word;
 use node::calls::read;
 ghost use mathlib.Core.Path.{_≡_};
 ghost use Rattle.rules.specs.Describe.{lastTick};
+ghost use Rattle.forms.specs.Column.{howMany};
 ghost use Rattle.node.specs.Image.{layout};
 ghost use Rattle.packs.specs.Number.{licenceOf};
-ghost use Rattle.packs.specs.Sheet.{entriesPlace, entriesIn, howMany};
+ghost use Rattle.packs.specs.Sheet.{entriesPlace, entriesIn};
 ghost use Rattle.packs.specs.Steps.{Lines};
 ghost use Rattle.packs.specs.Question.{entryInForce, licence, askedBy, packTold};
 

@@ -9,8 +9,9 @@ use forms::column::count_word;
 ghost use mathlib.Core.Path.{_≡_};
 ghost use Prim.Native.Nat.{_+_, _*_, _≤_};
 ghost use lib.ListN.{length};
+ghost use Rattle.forms.specs.Column.{howMany};
 ghost use Rattle.packs.specs.Number.{verdictOf};
-ghost use Rattle.packs.specs.Sheet.{entrySize, entryAt, entriesIn, howMany, backward, twice, entriesNumber};
+ghost use Rattle.packs.specs.Sheet.{entrySize, entryAt, entriesIn, backward, twice, entriesNumber};
 ghost use Rattle.packs.specs.Steps.{Lines};
 ghost use Rattle.packs.specs.Sheet.{toldBy, sheetTold, entryOn};
 

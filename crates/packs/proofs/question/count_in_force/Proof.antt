@@ -9,8 +9,9 @@ use Prim.Native.Nat.{_+_, _*_, _≤_}
 use native.Mathlib.Omega.{arith}
 use denote.Ref.{now}
 use lib.ListN.{length}
+use Rattle.forms.specs.Column.{howMany}
 use Rattle.packs.specs.Question.{entryInForce}
-use Rattle.packs.specs.Sheet.{entriesPlace, entrySize, entriesIn, howMany}
+use Rattle.packs.specs.Sheet.{entriesPlace, entrySize, entriesIn}
 use Rattle.packs.proofs.Entries.{many-end, many-step}
 use Rattle.packs.proofs.question.count_in_force.Statement.{statement}
 use Rattle.packs.proofs.question.count_in_force.Tie as tie

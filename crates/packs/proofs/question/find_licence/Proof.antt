@@ -8,10 +8,10 @@ use native.Mathlib.Omega.{arith}
 use denote.Ref.{now}
 use borrow.Author.Tests.{lt-ltb, le-ltb}
 use Rattle.fields.specs.Field.{words}
-use Rattle.forms.specs.Column.{count}
+use Rattle.forms.specs.Column.{howMany, count}
 use Rattle.packs.specs.Number.{notLicensed, notInForce, inForce}
 use Rattle.packs.specs.Question.{entryInForce, licence}
-use Rattle.packs.specs.Sheet.{entriesPlace, entrySize, entriesIn, packs, howMany}
+use Rattle.packs.specs.Sheet.{entriesPlace, entrySize, entriesIn, packs}
 use Rattle.packs.specs.declared.sheet.Entry.{Entry}
 use Rattle.packs.proofs.Entries.{packs-words}
 use Rattle.packs.proofs.question.find_licence.Statement.{statement}

@@ -10,7 +10,8 @@ use denote.Ref.{now}
 use lib.ListN.{length}
 use borrow.Author.Tests.{lt-ltb, le-ltb}
 use Rattle.fields.specs.Field.{field}
-use Rattle.packs.specs.Sheet.{firstPlace, endPlace, entrySize, entriesIn, howMany, backward}
+use Rattle.forms.specs.Column.{howMany}
+use Rattle.packs.specs.Sheet.{firstPlace, endPlace, entrySize, entriesIn, backward}
 use Rattle.packs.proofs.Entries.{many-end, many-step}
 use Rattle.packs.proofs.sheet.count_backward.Statement.{statement}
 use Rattle.packs.proofs.sheet.count_backward.Tie as tie

@@ -7,8 +7,8 @@ use native.Mathlib.Omega.{arith}
 use denote.Ref.{now}
 use borrow.Author.Tests.{lt-ltb, le-ltb}
 use Rattle.fields.specs.Field.{words}
-use Rattle.forms.specs.Column.{count}
-use Rattle.packs.specs.Sheet.{entrySize, entriesIn, packs, howMany, backward, entriesNumber}
+use Rattle.forms.specs.Column.{howMany, count}
+use Rattle.packs.specs.Sheet.{entrySize, entriesIn, packs, backward, entriesNumber}
 use Rattle.packs.specs.declared.sheet.Entry.{Entry}
 use Rattle.packs.proofs.Entries.{packs-words}
 use Rattle.packs.proofs.sheet.judge.Statement.{statement}

@@ -41,7 +41,7 @@ extern "C" {
 
 /*
  * The f that a form of n controllers, 1 to 32, has to state: the greatest number of faulty ones that n allows, (n - 1) / 3 rounded down.
- * With a smaller f, f + 1 faulty controllers could move the others' clocks although n allows for more of them. An image has to state it,
+ * With a smaller f, f + 1 faulty controllers could move the others' clocks although n allows for that many. An image has to state it,
  * too: one that an older archive booted with a smaller f is refused with 8 for good. Boot every controller of such a truck again, with
  * forms that state this f; their clocks begin at 0.
  */

@@ -126,7 +126,7 @@ module _ (form image out : List ℕ) where
   form-in-order : boots .number ≡ 0 → formNumber form ≡ 0
   form-in-order ok = boot-taken layout form (length image) (length out) (sym (boot-told layout form image out) ∙ ok) .roster
 
-  -- For sales. A truck starts with the most faults declared that its number of controllers allows
+  -- For sales. A controller boots with the most faults declared that n controllers allow
   pub boot-declares-all :
       boots .number ≡ 0
       → faultsOf form ≡ fullFaults (linesOf form)

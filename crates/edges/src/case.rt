@@ -2,6 +2,7 @@
 // the label, in two bytes each, the length of the bytes, in four, and what `Case` has; all of it big-endian.
 // tests/model/edges.py writes it.
 use crate::field;
+use crate::mask;
 use crate::read;
 use crate::row;
 use crate::say;
@@ -15,18 +16,19 @@ use fields::field::long;
 use fields::field::word;
 use forms::form::read_serial;
 use search::greatest::find_greatest;
+use sets::mask::Mask;
 use sets::ticks::Ticks;
 ghost use Prim.Native.Nat.{_≤_};
 ghost use lib.ListN.{length};
 
 // Bytes of a head.
-const HEAD: usize = 48;
+const HEAD: usize = 64;
 
 // The numbers of a case. Each call takes those that it has a use for.
 pub struct Case {
     // bytes of the output
     pub room: usize,
-    // f, the holders wanted, or the field to store
+    // f, the holders wanted, the field to store, or a place in the mask
     pub count: u32,
     pub serial: u32,
     pub kind: u32,
@@ -34,12 +36,13 @@ pub struct Case {
     pub tick: u32,
     pub last: u32,
     pub top: u32,
-    // the mask, the line, the least tick, or the long field to store
+    // the line, the least tick, or the long field to store
     pub value: u64,
+    pub mask: Mask,
 }
 
 fn head(b: &[u8]) -> Case
-    requires { ⌜ 48 ≤ length (now b) ⌝ }
+    requires { ⌜ 64 ≤ length (now b) ⌝ }
 {
     Case {
         room: word(b, 8) as usize,
@@ -51,14 +54,30 @@ fn head(b: &[u8]) -> Case
         last: word(b, 32),
         top: word(b, 36),
         value: long(b, 40),
+        mask: Mask::read(b, 48),
     }
 }
 
-// Makes a call of the crates `evidence` or `search`, and prints what came back. Rows are as many as the bytes have.
+// Makes a call of a mask at a place of it, and prints what came back.
+fn call_mask(number: u32, m: Mask, place: u32) {
+    match number {
+        16 => mask::store(m),
+        17 => mask::bit(m, place),
+        18 => mask::word_at(m, place),
+        19 => mask::below(m, place),
+        20 => mask::up(m, place),
+        21 => mask::cut(m, place),
+        22 => mask::mark(m, place),
+        _ => say::bad(),
+    }
+}
+
+// Makes a call of a set, or of the crates `evidence` or `search`, and prints what came back. Rows are as many as the bytes have.
 fn call_evidence(number: u32, case: Case, b: &[u8]) {
+    let held = case.mask;
     let s = Ticks {
         top: case.top,
-        mask: case.value,
+        mask: held,
     };
     let n = b.len() / ROW;
     let m = case.count as usize;
@@ -71,7 +90,7 @@ fn call_evidence(number: u32, case: Case, b: &[u8]) {
         13 => row::find(case.serial, b),
         14 => say::number(count_holders(b, 0, n, case.kind, WINDOW, case.tick) as u64),
         15 => say::number(find_greatest(b, 0, n, case.kind, WINDOW, m, case.value)),
-        _ => say::bad(),
+        _ => call_mask(number, held, case.count),
     }
 }
 

@@ -1,5 +1,6 @@
-// What a line of output is made of: numbers or bytes with a space before each.
+// What a line of output is made of: numbers, masks or bytes with a space before each.
 use forms::answer::Written;
+use sets::mask::Mask;
 
 pub(crate) fn number(x: u64) {
     io::write_all(1, b" ");
@@ -9,6 +10,21 @@ pub(crate) fn number(x: u64) {
 pub(crate) fn pair(x: u32, y: u32) {
     number(x as u64);
     number(y as u64);
+}
+
+// A mask as one number in hexadecimal, its high word first.
+pub(crate) fn mask(m: Mask) {
+    io::write_all(1, b" ");
+    io::print_hex(1, m.high, 16);
+    io::print_hex(1, m.low, 16);
+}
+
+pub(crate) fn yes_or_no(yes: bool) {
+    if yes {
+        io::write_all(1, b" yes");
+    } else {
+        io::write_all(1, b" no");
+    }
 }
 
 pub(crate) fn end() {

@@ -11,9 +11,9 @@ use Rattle.fields.specs.Field.{field, Bytes}
 use Rattle.fields.proofs.Fields.{field-lt}
 use Rattle.sets.specs.Sets.{tickCount}
 use Rattle.sets.specs.Ticks.{Held, holds}
-use Rattle.sets.proofs.Members.{holds-above}
+use Rattle.sets.proofs.Members.{holds-above, holds-le}
 use Rattle.evidence.specs.Holders.{holders, oneOn, placeOf}
-use Rattle.evidence.specs.Rows.{rowSize, echoPlace, initPlace, setPlace, setAt, rowAt, rowsAt, properSet, properRows}
+use Rattle.evidence.specs.Rows.{rowSize, echoPlace, initPlace, setOf, setPlace, setAt, rowAt, rowsAt, properSet, properRows}
 use Rattle.evidence.proofs.Layouts.{rows-down, set-of-row}
 
 -- ---- the first row, and those behind it
@@ -70,6 +70,13 @@ none-left : (mb n : ℕ) (b : List ℕ) (i : ℕ) → n ≡ 0 → rowsAt mb n b 
 unfolding rowsAt
 none-left mb zero b i e = refl
 none-left mb (suc n) b i e = absurd (omega arith)
+
+-- a row counts once
+pub holders-most : (w kind t mb n : ℕ) (b : List ℕ) (i : ℕ) → holders w kind t (rowsAt mb n b i) ≤ n
+unfolding holders rowsAt
+holders-most w kind t mb zero b i = omega arith
+holders-most w kind t mb (suc n) b i =
+    omega (arith, holds-le w (setOf kind (rowAt mb b i)) t, holders-most w kind t mb n b (i + rowSize mb))
 
 pub holders-end : (w kind t mb n : ℕ) (b : List ℕ) (i : ℕ) → n ≡ 0 → holders w kind t (rowsAt mb n b i) ≡ 0
 unfolding holders

@@ -71,6 +71,10 @@ abbrev pub Every : (Row → Type 0) → List Row → Type 0
 Every P [] = Unit {0}
 Every P (row ∷ rows) = P row × Every P rows
 
+pub every-map : {P Q : Row → Type 0} (rows : List Row) → ((row : Row) → P row → Q row) → Every P rows → Every Q rows
+every-map [] weaker h = tt
+every-map (row ∷ rows) weaker h = (weaker row (h .0), every-map rows weaker (h .1))
+
 pub every-credited :
     (w serial kind j : ℕ) (P : Row → Type 0) → ((row : Row) → P row → P (creditOf w serial kind j row)) →
     (rows : List Row) → Every P rows → Every P (credit w serial kind j rows)

@@ -136,6 +136,24 @@ module _ (w kind m low : ℕ) where
               | no n ↦ omega (arith, greatest-most t l p h)
             ]
 
+-- ---- it looks at rows through counts alone: where each tick has as many holders, be it in another window too, it is the same
+
+pub greatest-same :
+    (v w kind m low : ℕ) (rows others : List Row) → ((t : ℕ) → holders v kind t rows ≡ holders w kind t others) →
+    greatest v kind m low rows ≡ greatest w kind m low others
+greatest-same v w kind m low rows others same = go (greatest w kind m low others) refl
+  where
+    -- what is held by m of the one is held by m of the other, so no tick of the one stands above the greatest of the other
+    below : (t : ℕ) → low ≤ t → m ≤ holders v kind t rows → 0 < holders v kind t rows → t < greatest w kind m low others
+    below t l p h = greatest-most w kind m low others t l (rw (← same t) p) (rw (← same t) h)
+
+    go : (n : ℕ) → greatest w kind m low others ≡ n → greatest v kind m low rows ≡ n
+    go zero e = greatest-none v kind m low rows (λ t l p h. omega (arith, below t l p h))
+    go (suc t) e =
+        let found = greatest-held w kind m low others t e in
+        greatest-is v kind m low rows t (found .0) (rw (same t) (found .1)) (rw (same t) (found .2))
+        (λ u q p h. omega (arith, below u (omega arith) p h))
+
 -- ---- no tick from low on is held by m
 
 module _ (w kind m : ℕ) (positive : 0 < m) where

@@ -8,6 +8,8 @@ pub mod Greatest
 pub mod Growth
 pub mod Layouts
 pub mod Orders
+pub mod Over
 pub mod Serials
 pub mod Single
 pub mod Under
+pub mod Wider

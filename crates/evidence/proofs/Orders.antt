@@ -1,20 +1,21 @@
--- The order of rows decides nothing: neither who holds a tick, nor the greatest tick, nor whose row a frame changes.
+-- The order of rows decides nothing: neither who holds a tick, nor the greatest tick, nor whether all sets are proper, nor whose row a
+-- frame changes.
 -- Assumes nothing.
 use mathlib.Core.Path.{_≡_, refl, ap, ap₂, _∙_, sym}
-use mathlib.Core.Bool.{_&&_}
-use mathlib.Core.List.{List, [], _∷_, List·Permᴰ, Permᴰ·map}
+use mathlib.Core.Bool.{Bool, true, false, _&&_, and-false}
+use mathlib.Core.List.{List, _∷_, List·Permᴰ, Permᴰ·map}
 use mathlib.Core.List.List·Permᴰ.{List·Permᴰ·nil, List·Permᴰ·cons, List·Permᴰ·swap, List·Permᴰ·trans}
-use Prim.Native.Nat.{ℕ, _+_, max}
+use Prim.Native.Nat.{ℕ, _+_}
 use native.Mathlib.Omega.{arith}
-use lib.Dec.{leb, eqb}
-use Rattle.sets.specs.Ticks.{Held, holds}
-use Rattle.evidence.specs.Rows.{Row, setOf, creditOf, credit}
-use Rattle.evidence.specs.Holders.{holders, firstDown, bestOf, bestAmong, greatest}
+use Rattle.sets.specs.Ticks.{holds}
+use Rattle.evidence.specs.Rows.{Row, setOf, creditOf, credit, properSet, properRows}
+use Rattle.evidence.specs.Holders.{holders, greatest}
+use Rattle.evidence.proofs.Greatest.{greatest-same}
 
--- a number made of one value for each row, joined in a way that lets two neighbours change places
-module _ (over : List Row → ℕ) (value : Row → ℕ) (join : ℕ → ℕ → ℕ)
+-- something made of one value for each row, joined in a way that lets two neighbours change places
+module _ {A : Type 0} (over : List Row → A) (value : Row → A) (join : A → A → A)
     (step : (row : Row) (rows : List Row) → over (row ∷ rows) ≡ join (value row) (over rows))
-    (change : (a b c : ℕ) → join a (join b c) ≡ join b (join a c)) where
+    (change : (a b c : A) → join a (join b c) ≡ join b (join a c)) where
   pair : (a b : Row) (rows : List Row) → over (a ∷ b ∷ rows) ≡ join (value a) (join (value b) (over rows))
   pair a b rows = step a (b ∷ rows) ∙ ap (join (value a)) (step b rows)
 
@@ -22,7 +23,7 @@ module _ (over : List Row → ℕ) (value : Row → ℕ) (join : ℕ → ℕ →
   joined-order List·Permᴰ·nil = refl
   joined-order (List·Permᴰ·cons e p) = step _ _ ∙ ap₂ join (ap value e) (joined-order p) ∙ sym (step _ _)
   joined-order (List·Permᴰ·swap {l = rows} d e) =
-      pair _ _ rows ∙ change _ _ _ ∙ ap₂ (λ (x y : ℕ). join x (join y (over rows))) (ap value e) (ap value d) ∙ sym (pair _ _ rows)
+      pair _ _ rows ∙ change _ _ _ ∙ ap₂ (λ (x y : A). join x (join y (over rows))) (ap value e) (ap value d) ∙ sym (pair _ _ rows)
   joined-order (List·Permᴰ·trans p q) = joined-order p ∙ joined-order q
 
 pub holders-order :
@@ -31,35 +32,27 @@ unfolding holders
 holders-order w kind t p =
     joined-order (holders w kind t) (λ row. holds w (setOf kind row) t) _+_ (λ row rows. refl) (λ a b c. omega arith) p
 
--- ---- the greatest tick
+-- the greatest tick looks at rows through counts alone
+pub greatest-order :
+    (w kind m low : ℕ) {rows others : List Row} → List·Permᴰ rows others → greatest w kind m low rows ≡ greatest w kind m low others
+greatest-order w kind m low {rows} {others} p = greatest-same w w kind m low rows others (λ t. holders-order w kind t p)
 
-module _ (w kind m low : ℕ) where
-  -- the rows looked at
-  among-order :
-      (all : List Row) {rows others : List Row} → List·Permᴰ rows others →
-      bestAmong w kind m low all rows ≡ bestAmong w kind m low all others
-  unfolding bestAmong
-  among-order all p =
-      joined-order (bestAmong w kind m low all) (λ row. bestOf w kind m low all (setOf kind row)) max (λ row rows. refl)
-      (λ a b c. omega arith) p
+-- ---- whether all sets are proper
 
-  -- the rows that are counted
-  best-order :
-      {all others : List Row} → List·Permᴰ all others → (s : Held) → bestOf w kind m low all s ≡ bestOf w kind m low others s
-  unfolding bestOf
-  best-order p s = λ i. firstDown (λ t. eqb (holds w s t) 1 && leb m (holders-order w kind t p i)) low w (s .top + 1)
+both-change : (a b c : Bool) → (a && (b && c)) ≡ (b && (a && c))
+both-change true b c = refl
+both-change false b c = sym (and-false b)
 
-  among-counts :
-      {all others : List Row} → List·Permᴰ all others → (rows : List Row) →
-      bestAmong w kind m low all rows ≡ bestAmong w kind m low others rows
-  unfolding bestAmong
-  among-counts p [] = refl
-  among-counts p (row ∷ rows) = ap₂ max (best-order p (setOf kind row)) (among-counts p rows)
+both-joined : (a b c : Bool) → (a && (b && c)) ≡ ((a && b) && c)
+both-joined true b c = refl
+both-joined false b c = refl
 
-  pub greatest-order :
-      {rows others : List Row} → List·Permᴰ rows others → greatest w kind m low rows ≡ greatest w kind m low others
-  unfolding greatest
-  greatest-order {rows} {others} p = among-order rows p ∙ among-counts p others
+pub proper-order :
+    (w last : ℕ) {rows others : List Row} → List·Permᴰ rows others → properRows w last rows ≡ properRows w last others
+unfolding properRows
+proper-order w last p =
+    joined-order (properRows w last) (λ row. properSet w last (row .echo) && properSet w last (row .init)) _&&_
+    (λ row rows. both-joined (properSet w last (row .echo)) (properSet w last (row .init)) (properRows w last rows)) both-change p
 
 -- ---- the rows after a frame
 

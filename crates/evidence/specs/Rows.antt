@@ -16,6 +16,9 @@ pub record Row : Type 0 where
   pub echo : Held
   pub init : Held
 
+abbrev pub rowWith : ℕ → Held → Held → Row
+rowWith serial echo init = record { serial = serial; echo = echo; init = init }
+
 -- bytes of a set, and of a row
 abbrev pub setSize : ℕ → ℕ
 setSize mb = 4 + mb

@@ -1,22 +1,22 @@
 // Rows as they lie in an image's bytes, looked at and updated where they lie: nothing is unpacked. Each function takes the whole
 // buffer and a place in it: of a set, or of the first row. These are joints between layers: what they look at has to lie inside the
 // buffer, and the window has to fit a mask, which the node has checked before.
-use fields::field::long;
-use fields::field::put_long;
 use fields::field::put_word;
 use fields::field::word;
 use fields::kind::ECHO;
+use sets::mask::Mask;
 use sets::ticks::Ticks;
 ghost use mathlib.Core.Path.{_≡_};
 ghost use Prim.Native.Nat.{_+_, _*_, _≤_, _<_};
 ghost use lib.ListN.{length};
 ghost use Rattle.evidence.specs.Asked.{MayCredit};
 ghost use Rattle.evidence.specs.Holders.{holders, placeOf, foundBy};
-ghost use Rattle.evidence.specs.Rows.{setBytes, rowBytes, setPlace, setAt, putSet, rowsAt, putRows, credit, properSet, properRows};
+ghost use Rattle.evidence.specs.Rows.{setBytes, rowBytes, setPlace, setAt, putSet, rowsAt, rowWith, putRow, putRows};
+ghost use Rattle.evidence.specs.Rows.{credit, properSet, properRows};
 ghost use Rattle.sets.specs.Sets.{maskBytes, maskBits, heldBy};
 
 // Bytes of a set: its top and its mask.
-const SET: usize = 4 + Ticks::BYTES;
+const SET: usize = 4 + Mask::BYTES;
 
 // Bytes of a row: serial, echo set, init set.
 pub const ROW: usize = 4 + 2 * SET;
@@ -24,7 +24,7 @@ pub const ROW: usize = 4 + 2 * SET;
 // Where in its row a set stands: the echo set behind the serial, the init set behind that.
 pub const ECHO_PLACE: usize = 4;
 
-pub const INIT_PLACE: usize = ECHO_PLACE + SET;
+const INIT_PLACE: usize = ECHO_PLACE + SET;
 
 // Where in its row the set of a kind stands.
 pub fn set_place(kind: u32) -> usize
@@ -40,17 +40,28 @@ pub fn read_set(b: &[u8], i: usize) -> Ticks
 {
     Ticks {
         top: word(b, i),
-        mask: long(b, i + 4),
+        mask: Mask::read(b, i + 4),
     }
 }
 
 // Writes a set at place i.
-pub fn store_set(b: &mut [u8], i: usize, s: Ticks)
+fn store_set(b: &mut [u8], i: usize, s: Ticks)
     requires { ⌜ i + setBytes ≤ length (now b) ⌝ }
     ensures { λ _. ⌜ now (b .exit) ≡ putSet maskBytes (now (b .entry)) i (heldBy s) ⌝ }
 {
+    let mask = s.mask;
     put_word(b, i, s.top);
-    put_long(b, i + 4, s.mask);
+    mask.put(b, i + 4);
+}
+
+// Writes a row at place i.
+pub fn put_row(b: &mut [u8], i: usize, serial: u32, echo: Ticks, init: Ticks)
+    requires { ⌜ i + rowBytes ≤ length (now b) ⌝ }
+    ensures { λ _. ⌜ now (b .exit) ≡ putRow maskBytes (now (b .entry)) i (rowWith serial (heldBy echo) (heldBy init)) ⌝ }
+{
+    put_word(b, i, serial);
+    store_set(b, i + ECHO_PLACE, echo);
+    store_set(b, i + INIT_PLACE, init);
 }
 
 // Where the row of a serial stands among its rows.
@@ -107,7 +118,7 @@ pub fn credit_row(b: &mut [u8], i: usize, n: usize, w: u32, serial: u32, kind: u
 }
 
 // Whether a set is proper, with its top at most the last tick.
-fn is_proper_set(s: Ticks, w: u32, last: u32) -> bool
+pub fn is_proper_set(s: Ticks, w: u32, last: u32) -> bool
     requires { ⌜ w ≤ maskBits ⌝ }
     ensures { λ r. ⌜ r ≡ properSet w last (heldBy s) ⌝ }
 {

@@ -9,7 +9,8 @@ use borrow.Author.Tests.{eq-eqb, ne-eqb}
 use lib.ListN.{getD}
 use Rattle.fields.specs.Field.{field}
 use Rattle.node.specs.Calls.{Outcome}
-use Rattle.node.specs.Image.{Layout, nodeOf}
+use Rattle.node.specs.Image.{nodeOf}
+use Rattle.node.specs.declared.layout.Layout.{Layout}
 use Rattle.text.specs.Puts.{Puts}
 use Rattle.log.specs.Listing.{line, lineRoom, lineOf, eventCall, eventLines, callLines}
 use Rattle.log.specs.Log.{eventSize, countOf, eventsAt}

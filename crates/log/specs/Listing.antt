@@ -10,7 +10,9 @@ use Rattle.forms.specs.Form.{WriteTold, doneWrite, refusedWrite}
 use Rattle.forms.specs.Frame.{frameSize}
 use Rattle.rules.specs.Describe.{room}
 use Rattle.node.specs.Calls.{Outcome, booted, deliverOutcome}
-use Rattle.node.specs.Image.{Layout, mostImage, nodeOf}
+use Rattle.node.specs.Image.{nodeOf}
+use Rattle.node.specs.Layout.{mostImage}
+use Rattle.node.specs.declared.layout.Layout.{Layout}
 use Rattle.text.specs.Characters.{blank, newline}
 use Rattle.text.specs.Decimal.{mostDigits, decimal}
 use Rattle.text.specs.Lay.{lay}

@@ -5,7 +5,7 @@ use Prim.Native.Nat.{ℕ, _+_, _*_, _≤_, _<_}
 use lib.ListN.{length}
 use Rattle.forms.specs.Form.{WriteTold, doneWrite, refusedWrite}
 use Rattle.node.specs.Calls.{Outcome}
-use Rattle.node.specs.Image.{headerSize}
+use Rattle.node.specs.Layout.{headerSize}
 use Rattle.text.specs.Puts.{Puts}
 use Rattle.log.specs.Listing.{lineOf, lineRoom}
 use Rattle.log.specs.Log.{formPlace, eventSize, mostEvents, countOf, eventsAt}

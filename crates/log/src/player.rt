@@ -22,7 +22,7 @@ ghost use lib.ListN.{length};
 ghost use Rattle.rules.specs.Describe.{lastTick};
 ghost use Rattle.node.specs.Answers.{outcomeBy};
 ghost use Rattle.node.specs.Calls.{booted};
-ghost use Rattle.node.specs.Image.{headerSize, layout};
+ghost use Rattle.node.specs.Layout.{headerSize, layout};
 ghost use Rattle.text.specs.Puts.{Puts};
 ghost use Rattle.log.specs.Listing.{columnRoom, lineRoom, listingRoom, imageLent, outLent};
 ghost use Rattle.log.specs.Listing.{column, modeLetter, line, eventCall, eventLines, callLines, played};

@@ -23,7 +23,9 @@ use Rattle.evidence.proofs.Growth.{Kept, AllKept}
 use Rattle.evidence.proofs.Layouts.{serials-of-rows}
 use Rattle.rules.specs.declared.node.Rule.the-variants.{Rest}
 use Rattle.rules.proofs.Which.{which-says}
-use Rattle.node.specs.Image.{Layout, headerSize, nodeOf, rowsOf, stateOf, soundImage}
+use Rattle.node.specs.Image.{nodeOf, rowsOf, stateOf, soundImage}
+use Rattle.node.specs.Layout.{headerSize}
+use Rattle.node.specs.declared.layout.Layout.{Layout}
 use Rattle.node.specs.Sound.{SoundSet, SoundImage}
 use Rattle.node.proofs.Images.{fixed-facts, fixed-test}
 use Rattle.node.proofs.Sound.{SoundBytes, sound-bytes, bytes-sound}

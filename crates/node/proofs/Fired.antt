@@ -11,7 +11,8 @@ use Rattle.sets.specs.Sets.{tickCount}
 use Rattle.rules.proofs.AtRest.{firingsAlone, firingsTogether, recordsAlone, recordsTogether}
 use Rattle.rules.proofs.Sent.{delivered-few}
 use Rattle.node.specs.Calls.{Outcome, bootNumber, booted, deliverNumber, deliveryOf, deliverOutcome}
-use Rattle.node.specs.Image.{Layout, nodeOf, stateOf}
+use Rattle.node.specs.Image.{nodeOf, stateOf}
+use Rattle.node.specs.declared.layout.Layout.{Layout}
 use Rattle.node.proofs.Outcomes.{any-outcome, either-way}
 use Rattle.node.proofs.SoundImages.{Works, delivery-firings, delivery-records}
 

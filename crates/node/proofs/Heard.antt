@@ -26,7 +26,9 @@ use Rattle.rules.specs.Answering.{Arrival}
 use Rattle.rules.specs.Delivery.{State, delivered}
 use Rattle.node.specs.Calls.{Outcome, deliverNumber, deliveryOf, imageAfter, deliverOutcome}
 use Rattle.node.specs.Heard.{imageLeft, cameFrom, accepted}
-use Rattle.node.specs.Image.{Layout, headerSize, rowsOf, stateOf, soundImage}
+use Rattle.node.specs.Image.{rowsOf, stateOf, soundImage}
+use Rattle.node.specs.Layout.{headerSize}
+use Rattle.node.specs.declared.layout.Layout.{Layout}
 use Rattle.node.specs.Runs.{Call, Deliver, Read, called}
 use Rattle.node.specs.Traffic.{takenIn, takenOver}
 use Rattle.node.proofs.Images.{bytes-after}

@@ -1,5 +1,5 @@
--- The byte level is the list level: an image written reads back as the node that was written, what a delivery writes reads back
--- as the node that follows, and a sound image written again is the same bytes. Over the layout.
+-- The byte level is the list level: an image written reads back as the node that was written, whatever buffer it was written over, what a
+-- delivery writes reads back as the node that follows, and a sound image written again is the same bytes. Over the layout.
 -- Assumes nothing.
 use mathlib.Core.Path.{_≡_, refl, sym, ap, _∙_}
 use mathlib.Core.Bool.{Bool, true, _&&_, and-eq-true-iff}
@@ -7,18 +7,22 @@ use mathlib.Core.List.{List, [], _∷_}
 use Prim.Native.Nat.{ℕ, suc, _+_, _-_, _^_, _≤_, _<_}
 use native.Mathlib.Omega.{arith}
 use borrow.Author.Tests.{eq-eqb, eqb-true}
-use lib.ListN.{length, getD, drop}
+use lib.ListN.{length, getD, take, drop}
 use lib.Dec.{T, ltb, leb, eqb, ltb→lt, leb→le, eqb→eq, lit<, lit≤}
 use mir.Facts.{and-yes}
 use Rattle.fields.specs.Field.{field, Bytes}
 use Rattle.fields.proofs.Fields.{field-byte, field-same, put-field, getD-put-other}
+use Rattle.fields.proofs.Over.{stores-over}
 use Rattle.evidence.specs.Rows.{Row, rowsAt, putRows}
-use Rattle.evidence.proofs.Layouts.{rows-same, put-rows}
-use Rattle.evidence.proofs.Encoded.{RowsFit, rows-read-back, length-putRows, bytes-putRows, getD-putRows-before}
+use Rattle.evidence.proofs.Layouts.{length-rows, rows-same, put-rows}
+use Rattle.evidence.proofs.Encoded.{RowsFit, rows-read-back, length-putRows, bytes-putRows, getD-putRows-before, getD-putRows-after}
+use Rattle.evidence.proofs.Over.{rows-over}
 use Rattle.rules.specs.Delivery.{State, Delivered}
 use Rattle.node.specs.Calls.{imageAfter}
 use Rattle.node.specs.Image.{modePlace, ownPlace, tickPlace, sentPlace}
-use Rattle.node.specs.Image.{Layout, headerSize, imageSize, nodeOf, rowsOf, stateOf}
+use Rattle.node.specs.Image.{nodeOf, rowsOf, stateOf}
+use Rattle.node.specs.Layout.{headerSize, imageSize}
+use Rattle.node.specs.declared.layout.Layout.{Layout}
 use Rattle.node.specs.Image.{putClock, putFixed, putNode, putState, fixedHeader}
 use Rattle.rules.specs.declared.node.Node.{Node}
 use Rattle.fields.proofs.Stores.{Store, store, putStores, apart, stored-at, stores-apart}
@@ -62,8 +66,12 @@ node-stores L b p = refl
 length-putClock : (b : List ℕ) (p : Node) → length (putClock b p) ≡ length b
 length-putClock b p = ap length (clock-stores b p) ∙ length-stores b (clockStores p)
 
-pub length-putNode : (L : Layout) (b : List ℕ) (p : Node) → length (putNode L b p) ≡ length b
+length-putNode : (L : Layout) (b : List ℕ) (p : Node) → length (putNode L b p) ≡ length b
 length-putNode L b p = ap length (node-stores L b p) ∙ length-stores b (nodeStores L p)
+
+pub length-putState : (L : Layout) (b : List ℕ) (s : State) → length (putState L b s) ≡ length b
+unfolding putState
+length-putState L b s = length-putRows (L .masks) _ headerSize (s .rows) ∙ length-putNode L b (s .node)
 
 pub length-after : (L : Layout) (b : List ℕ) (d : Delivered) → length (imageAfter L b d) ≡ length b
 unfolding imageAfter
@@ -94,9 +102,41 @@ getD-putClock-other b p j mode tick sent =
 pub getD-putClock-after : (b : List ℕ) (p : Node) (j : ℕ) → headerSize ≤ j → getD (putClock b p) j 0 ≡ getD b j 0
 getD-putClock-after b p j far = getD-putClock-other b p j (λ e. omega arith) (λ h. omega arith) (λ h. omega arith)
 
-pub getD-putNode-after : (L : Layout) (b : List ℕ) (p : Node) (j : ℕ) → headerSize ≤ j → getD (putNode L b p) j 0 ≡ getD b j 0
+getD-putNode-after : (L : Layout) (b : List ℕ) (p : Node) (j : ℕ) → headerSize ≤ j → getD (putNode L b p) j 0 ≡ getD b j 0
 unfolding nodeStores clockStores
 getD-putNode-after L b p j far = rw node-stores (getD-above b headerSize j (nodeStores L p) tt far)
+
+-- a byte behind a whole image
+pub getD-putState-after :
+    (L : Layout) (b : List ℕ) (s : State) (j : ℕ)
+    → length (s .rows) ≡ s .node .lines
+    → imageSize L (s .node .lines) ≤ j
+    → getD (putState L b s) j 0 ≡ getD b j 0
+unfolding putState
+getD-putState-after L b s j count far =
+    getD-putRows-after (L .masks) _ headerSize (s .rows) j (rw count far) ∙ getD-putNode-after L b (s .node) j (omega arith)
+
+-- ---- what is written does not depend on what stood there
+
+node-over :
+    (L : Layout) (b c : List ℕ) (p : Node)
+    → headerSize ≤ length b
+    → headerSize ≤ length c
+    → take headerSize (putNode L b p) ≡ take headerSize (putNode L c p)
+unfolding nodeStores clockStores
+node-over L b c p r s = rw (node-stores L b p, node-stores L c p) (stores-over b c (nodeStores L p) headerSize tt r s)
+
+pub state-over :
+    (L : Layout) (b c : List ℕ) (s : State)
+    → length (s .rows) ≡ s .node .lines
+    → imageSize L (s .node .lines) ≤ length b
+    → imageSize L (s .node .lines) ≤ length c
+    → take (imageSize L (s .node .lines)) (putState L b s) ≡ take (imageSize L (s .node .lines)) (putState L c s)
+unfolding putState
+state-over L b c s count p q =
+    rows-over (L .masks) (putNode L b (s .node)) (putNode L c (s .node)) headerSize (s .rows) (imageSize L (s .node .lines)) (rw count refl)
+    (omega (arith, length-putNode L b (s .node))) (omega (arith, length-putNode L c (s .node)))
+    (node-over L b c (s .node) (omega arith) (omega arith))
 
 -- ---- a store of a header reads back
 
@@ -260,6 +300,11 @@ module _
 
 -- ---- a state written over an image reads back
 
+-- an image has a row for each of its lines
+pub state-lines : (L : Layout) (b : List ℕ) → length (stateOf L b .rows) ≡ stateOf L b .node .lines
+unfolding stateOf nodeOf
+state-lines L b = length-rows (L .masks) (getD b 0 0) b headerSize
+
 -- a state that fits an image: its numbers fit their fields, it has a row for each line, and there is room for them
 pub record StateFits (L : Layout) (b : List ℕ) (s : State) : Type 0 where
   pub node : NodeFits (s .node)
@@ -303,7 +348,7 @@ state-read-back L b s fine fits =
       fixed =
           fixed-same _ head (s .node) (λ w i t. front-field L head (s .rows) w i) L
           (fixed-back L b (s .node) fine (fits .node) room);
-      size = length-putRows (L .masks) head headerSize (s .rows) ∙ length-putNode L b (s .node);
+      size = length-putState L b s;
     }
   where
     room : headerSize ≤ length b

@@ -10,18 +10,20 @@ use Rattle.fields.specs.Field.{field, Bytes}
 use Rattle.forms.specs.Form.{linesOf}
 use Rattle.evidence.specs.Rows.{credit}
 use Rattle.evidence.proofs.Credits.{credit-elsewhere}
-use Rattle.evidence.proofs.Encoded.{length-putRows, getD-putRows-after}
+use Rattle.evidence.proofs.Encoded.{getD-putRows-after}
 use Rattle.evidence.proofs.Layouts.{length-rows}
 use Rattle.rules.specs.Delivery.{delivered}
 use Rattle.rules.specs.Describe.{bootRecords}
 use Rattle.rules.specs.Record.{recordSize}
 use Rattle.rules.proofs.Records.{length-putRecords, getD-putRecords-after}
 use Rattle.node.specs.After.{InRow}
-use Rattle.node.specs.Calls.{bootNumber, booted, deliverNumber, deliveryOf, imageAfter}
+use Rattle.node.specs.Calls.{bootNumber, freshState, booted, deliverNumber, deliveryOf, imageAfter}
 use Rattle.node.specs.Calls.{deliverOutcome}
-use Rattle.node.specs.Image.{Layout, modePlace, tickPlace, sentPlace, headerSize, imageSize, rowsOf, stateOf, putState}
+use Rattle.node.specs.Image.{modePlace, tickPlace, sentPlace, rowsOf, stateOf}
+use Rattle.node.specs.Layout.{headerSize, imageSize}
+use Rattle.node.specs.declared.layout.Layout.{Layout}
 use Rattle.node.proofs.Fresh.{fresh-lines}
-use Rattle.node.proofs.Images.{length-after, length-putNode, getD-putClock-other, getD-putClock-after, getD-putNode-after}
+use Rattle.node.proofs.Images.{length-after, length-putState, getD-putClock-other, getD-putClock-after, getD-putState-after}
 use Rattle.node.proofs.Outcomes.{either-way}
 
 -- ---- boot
@@ -31,10 +33,10 @@ module _ (L : Layout) (form image out : List ℕ) where
   pub boot-behind-image : (i : ℕ) →
       imageSize L (linesOf form) ≤ i →
       getD (booted L form image out .image) i 0 ≡ getD image i 0
-  unfolding booted putState
+  unfolding booted freshState
   boot-behind-image i far =
       either-way (bootNumber L form (length image) (length out)) image out _ (λ o. getD (o .image) i 0 ≡ getD image i 0)
-      (getD-putRows-after (L .masks) _ headerSize _ i (rw (fresh-lines form) far) ∙ getD-putNode-after L image _ i (omega arith))
+      (getD-putState-after L image (freshState form) i (fresh-lines form) far)
       (λ n. refl)
 
   -- bytes behind the records stay
@@ -49,11 +51,11 @@ module _ (L : Layout) (form image out : List ℕ) where
 
   -- and no buffer changes its length
   pub boot-lengths : (length (booted L form image out .image) ≡ length image) × (length (booted L form image out .out) ≡ length out)
-  unfolding booted putState
+  unfolding booted
   boot-lengths =
       either-way (bootNumber L form (length image) (length out)) image out _
       (λ o. (length (o .image) ≡ length image) × (length (o .out) ≡ length out))
-      (length-putRows (L .masks) _ headerSize _ ∙ length-putNode L image _, length-putRecords out 0 bootRecords) (λ n. (refl, refl))
+      (length-putState L image (freshState form), length-putRecords out 0 bootRecords) (λ n. (refl, refl))
 
 -- ---- deliver
 

@@ -14,7 +14,8 @@ use Rattle.rules.specs.Delivery.{State}
 use Rattle.node.specs.After.{Follows}
 use Rattle.node.specs.Calls.{deliverNumber, deliveryOf, imageAfter, deliverOutcome, reading}
 use Rattle.node.specs.Heard.{imageLeft}
-use Rattle.node.specs.Image.{Layout, nodeOf, stateOf}
+use Rattle.node.specs.Image.{nodeOf, stateOf}
+use Rattle.node.specs.declared.layout.Layout.{Layout}
 use Rattle.node.specs.Runs.{Call, Deliver, Read, called}
 use Rattle.node.proofs.Conditions.{sound-says}
 use Rattle.node.proofs.Heard.{bytes-called}

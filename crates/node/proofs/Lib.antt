@@ -16,4 +16,5 @@ pub mod Stays
 pub mod Taken
 pub mod Theorems
 pub mod Traffic
+pub mod Wider
 pub mod Worked

@@ -2,14 +2,13 @@
 -- lent, and any calls, refused ones included: after each call the same is seen. Over the layout and the last tick.
 -- Assumes nothing.
 use mathlib.Core.Path.{_≡_, refl, sym, ap, ap₂, _∙_, subst}
-use mathlib.Core.Bool.{true}
 use mathlib.Core.List.{List, [], _∷_, map, List·Permᴰ, Permᴰ·map}
 use Prim.Native.Nat.{ℕ, _≤_, _<_}
 use native.Mathlib.Decide.{ℕ-discrete}
 use borrow.Author.Tests.{eq-eqb, ne-eqb}
 use lib.ListN.{length, getD}
 use lib.Dec.{lit<, lit≤}
-use Rattle.fields.specs.Field.{field, Bytes}
+use Rattle.fields.specs.Field.{Bytes}
 use Rattle.forms.specs.Form.{Reordered, formNumber}
 use Rattle.forms.specs.Frame.{frameAt}
 use Rattle.forms.specs.declared.frame.Frame.{Frame}
@@ -18,33 +17,24 @@ use Rattle.evidence.specs.Rows.{Row}
 use Rattle.evidence.proofs.Layouts.{serials-of-rows}
 use Rattle.node.specs.Calls.{Outcome, outcome, bootNumber, freshState, booted}
 use Rattle.node.specs.Calls.{numberBeforeFrame, deliverNumber, deliveryOf, deliverOutcome}
-use Rattle.node.specs.Calls.{Reading, readNumber, reading}
+use Rattle.node.specs.Calls.{Reading, reading}
 use Rattle.rules.specs.Delivery.{State, Delivered, delivered}
 use Rattle.rules.specs.Describe.{freshNode, freshRows}
-use Rattle.node.specs.Image.{Layout, modePlace, tickPlace, headerSize, nodeOf, rowsOf, rosterIn, stateOf, soundImage}
+use Rattle.node.specs.Image.{nodeOf, rowsOf, rosterIn, stateOf}
+use Rattle.node.specs.Layout.{headerSize}
+use Rattle.node.specs.Matched.{Matched, Pair}
+use Rattle.node.specs.declared.layout.Layout.{Layout}
 use Rattle.rules.specs.Record.{Outgoing, putRecords}
 use Rattle.node.specs.Runs.{Call, Deliver, Read, under, Seen, seenBy, seenIn, called, observed, life}
 use Rattle.rules.specs.declared.node.Node.{Node}
 use Rattle.node.proofs.Images.{bytes-after, bytes-putState}
 use Rattle.node.proofs.Orderly.{delivery-order, under-order}
+use Rattle.node.proofs.Outcomes.{reading-same}
 use Rattle.node.proofs.Taken.{boot-taken}
 use Rattle.node.proofs.SoundImages.{Works, delivery-sound, boot-sound}
 use Rattle.sets.specs.Sets.{tickCount}
 
 -- ---- two images that a truck cannot tell apart
-
--- two states with the same node, and the same rows in some order
-record Matched (s t : State) : Type 0 where
-  node : s .node ≡ t .node
-  rows : List·Permᴰ (s .rows) (t .rows)
-
--- two sound images that hold such states
-record Pair (L : Layout) (last : ℕ) (a b : List ℕ) : Type 0 where
-  first : soundImage L last a ≡ true
-  second : soundImage L last b ≡ true
-  bytes₁ : Bytes a
-  bytes₂ : Bytes b
-  same : Matched (stateOf L a) (stateOf L b)
 
 -- a boot that is refused leaves both buffers as they were lent, and those are equal
 data Alike (L : Layout) (last : ℕ) (a b : List ℕ) : Type 0 where
@@ -66,11 +56,8 @@ module _ (L : Layout) (last : ℕ) (a b : List ℕ) (h : Pair L last a b) where
   same-number port frame n = rw (h .first, h .second, count-order port serials)
 
   same-reading : reading L last a ≡ reading L last b
-  unfolding reading readNumber stateOf nodeOf
-  same-reading =
-      let mode : getD a modePlace 0 ≡ getD b modePlace 0 = ap (λ (p : Node). p .mode) (h .same .node) in
-      let clock : field 4 a tickPlace ≡ field 4 b tickPlace = ap (λ (p : Node). p .tick) (h .same .node) in
-      rw (h .first, h .second, mode, clock)
+  unfolding stateOf
+  same-reading = reading-same L L last a b (h .first) (h .second) (h .same .node)
 
 module _ (L : Layout) (last : ℕ) (a b : List ℕ) where
   -- the same clock and mode, and the same evidence under each serial
@@ -197,6 +184,9 @@ module _ (L : Layout) (last : ℕ) (works : Works L) (small : last < tickCount) 
   observed-alike a b (call ∷ calls) h =
       let m = called-alike a b call h in
       ap₂ (λ (x : Seen) (l : List Seen). x ∷ l) (m .0) (observed-alike _ _ calls (m .1))
+
+  pub pair-observed : (a b : List ℕ) (calls : List Call) → Pair L last a b → observed L last a calls ≡ observed L last b calls
+  pair-observed a b calls h = observed-alike a b calls (paired h)
 
 -- ---- a whole life
 

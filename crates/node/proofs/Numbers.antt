@@ -14,7 +14,9 @@ use Rattle.forms.specs.Table.{Check, Given, Says}
 use Rattle.forms.proofs.Meaning.{less, equal, in-front, none, past, form-then, frame-says, frame-told, absent}
 use Rattle.rules.specs.Describe.{room}
 use Rattle.node.specs.Calls.{bootNumber, booted, numberBeforeFrame, deliverNumber, deliverOutcome, readNumber, reading}
-use Rattle.node.specs.Image.{Layout, modePlace, imageSize, rosterIn, soundImage}
+use Rattle.node.specs.Image.{modePlace, rosterIn, soundImage}
+use Rattle.node.specs.Layout.{imageSize}
+use Rattle.node.specs.declared.layout.Layout.{Layout}
 use Rattle.node.specs.Table.{bootChecks, deliverChecks, readChecks}
 use Rattle.node.proofs.Conditions.{not-sound-says}
 use Rattle.node.proofs.Outcomes.{boot-told, deliver-told, read-told}
@@ -32,7 +34,7 @@ boot-says L form image out =
 -- ---- deliver: 7, 8, 9, then 10 and 11 of the frame
 
 -- a test that passes where the next number is looked for
-swap : (t : Bool) (a b : ℕ) → cond t a b ≡ cond (not t) b a
+pub swap : (t : Bool) (a b : ℕ) → cond t a b ≡ cond (not t) b a
 swap true a b = refl
 swap false a b = refl
 

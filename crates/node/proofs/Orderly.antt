@@ -1,35 +1,29 @@
--- The order of rows decides nothing in a delivery: the rule that comes first, all that settling sends and leaves, and what is held
--- under each serial are the same for every permutation of the rows.
+-- The order of rows decides nothing in a delivery: the rule that comes first, whether a state is sound, all that settling sends and leaves,
+-- and what is held under each serial are the same for every permutation of the rows.
 -- Assumes nothing.
 use mathlib.Core.Path.{_≡_, refl, sym, ap, _∙_, fun-ext}
-use mathlib.Core.Bool.{cond, _&&_}
-use mathlib.Core.List.{List, _++_, List·Permᴰ}
-use Prim.Native.Nat.{ℕ, suc, _+_, _-_}
+use mathlib.Core.Bool.{cond}
+use mathlib.Core.List.{List, _++_, List·Permᴰ, Permᴰ·map}
+use Prim.Native.Nat.{ℕ, suc, _+_}
 use native.Mathlib.Omega.{arith}
-use lib.Dec.{ltb, leb, eqb}
-use Rattle.fields.specs.Kind.{INIT, ECHO}
+use lib.Dec.{eqb}
 use Rattle.forms.specs.declared.frame.Frame.{Frame}
 use Rattle.sets.specs.Ticks.{holds}
 use Rattle.evidence.specs.Rows.{Row, setOf}
-use Rattle.evidence.proofs.Orders.{joined-order, holders-order, greatest-order, credit-order}
-use Rattle.rules.specs.Delivery.{answer, settled, delivered}
+use Rattle.forms.proofs.Order.{roster-order}
+use Rattle.evidence.proofs.Orders.{joined-order, holders-order, proper-order, credit-order}
+use Rattle.rules.specs.Delivery.{State, answer, settled, delivered}
 use Rattle.rules.specs.Describe.{mostFirings}
-use Rattle.rules.specs.Rules.{orJump, orWake, firstRule, Settled, follows, settle}
-use Rattle.rules.proofs.Firing.{settle-none, settle-rest, settle-fires, settle-induction}
+use Rattle.rules.specs.Rules.{firstRule, Settled, follows, settle}
+use Rattle.rules.proofs.Firing.{rule-same, settle-none, settle-rest, settle-fires, settle-induction}
+use Rattle.node.specs.Image.{soundState}
+use Rattle.node.specs.Matched.{Matched}
 use Rattle.node.specs.Runs.{under}
 use Rattle.rules.specs.declared.node.Node.{Node}
-use Rattle.rules.specs.declared.node.Rule.the-variants.{Echo, Tick}
 
 module _ (w last : ℕ) {rows others : List Row} (order : List·Permᴰ rows others) where
   rule-order : (p : Node) → firstRule w last rows p ≡ firstRule w last others p
-  unfolding firstRule
-  rule-order p =
-      λ d.
-      cond (leb (p .faults + 1) (holders-order w INIT (p .tick) order d) && ltb (p .sent) (p .tick)) Echo
-      (cond (leb (p .faults + 1) (holders-order w ECHO (p .tick) order d) && ltb (p .sent) (p .tick)) Echo
-      (cond (leb (p .lines - p .faults) (holders-order w ECHO (p .tick) order d) && ltb (p .tick) last) Tick
-      (orJump (greatest-order w ECHO (p .faults + 1) (p .tick + 2) order d)
-      (orWake (cond (eqb (p .mode) 0) (greatest-order w INIT (p .faults + 1) 0 order d) 0)))))
+  rule-order = rule-same w w last rows others (λ kind t. holders-order w kind t order)
 
   settle-order : (c : ℕ) (p : Node) → settle w last rows c p ≡ settle w last others c p
   settle-order =
@@ -37,6 +31,24 @@ module _ (w last : ℕ) {rows others : List Row} (order : List·Permᴰ rows oth
       (λ c p e. sym (settle-rest w last others (suc c) p (sym (rule-order p) ∙ e)))
       (λ c p e ih.
       rw (settle-fires w last others c p (rw (rule-order p) at e), ← rule-order p) (ap (follows p (firstRule w last rows p)) ih))
+
+-- whether a state is sound
+module _ (w last : ℕ) where
+  with-order :
+      (p : Node) {rows others : List Row}
+      → List·Permᴰ rows others
+      → soundState w last (record { node = p; rows = rows }) ≡ soundState w last (record { node = p; rows = others })
+  unfolding soundState
+  with-order p order =
+      rw (
+        roster-order (p .faults) (p .own) (Permᴰ·map (λ (row : Row). row .serial) order),
+        proper-order w last order,
+        rule-order w last order p,
+      )
+
+  pub sound-order : {s t : State} → Matched s t → soundState w last s ≡ soundState w last t
+  sound-order {s} {t} h =
+      ap (λ (p : Node). soundState w last (record { node = p; rows = s .rows })) (h .node) ∙ with-order (t .node) (h .rows)
 
 -- what a delivery leaves and sends: the same node, records and firings, and rows in the same order as before
 pub delivery-order :

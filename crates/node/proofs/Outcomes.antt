@@ -6,13 +6,15 @@ use mathlib.Core.Bool.{Bool, true, false, cond}
 use mathlib.Core.List.{List}
 use Prim.Native.Nat.{ℕ}
 use borrow.Author.Tests.{eqb-true, eq-eqb, ne-eqb}
-use lib.ListN.{length}
+use lib.ListN.{length, getD}
 use lib.Dec.{eqb}
 use Rattle.fields.specs.Field.{field}
 use Rattle.forms.proofs.Meaning.{told}
 use Rattle.node.specs.Calls.{Outcome, refused, outcome, bootNumber, bootDone, booted, deliverNumber, deliverDone, deliverOutcome}
 use Rattle.node.specs.Calls.{Reading, readNumber, unread, reading}
-use Rattle.node.specs.Image.{Layout, tickPlace, nodeOf}
+use Rattle.node.specs.Image.{modePlace, tickPlace, nodeOf, soundImage}
+use Rattle.node.specs.declared.layout.Layout.{Layout}
+use Rattle.rules.specs.declared.node.Node.{Node}
 
 -- ---- any outcome
 
@@ -101,3 +103,16 @@ module _ (L : Layout) (last : ℕ) (image : List ℕ) where
   pub read-done : reading L last image .number ≡ 0 → reading L last image .clock ≡ nodeOf image .tick
   unfolding reading nodeOf
   read-done ok = ap (λ (t : Bool). answer t .clock) (eq-eqb reads 0 (sym read-told ∙ ok))
+
+-- two sound images with the same node read the same, be it in two layouts
+pub reading-same :
+    (L M : Layout) (last : ℕ) (a b : List ℕ)
+    → soundImage L last a ≡ true
+    → soundImage M last b ≡ true
+    → nodeOf a ≡ nodeOf b
+    → reading L last a ≡ reading M last b
+unfolding reading readNumber nodeOf
+reading-same L M last a b first second same =
+    let mode : getD a modePlace 0 ≡ getD b modePlace 0 = ap (λ (p : Node). p .mode) same in
+    let clock : field 4 a tickPlace ≡ field 4 b tickPlace = ap (λ (p : Node). p .tick) same in
+    rw (first, second, mode, clock)

@@ -19,8 +19,10 @@ use Rattle.evidence.specs.Serials.{serialsIn}
 use Rattle.evidence.proofs.Growth.{AllKept, all-kept, all-kept-test}
 use Rattle.evidence.proofs.Layouts.{serials-of-rows}
 use Rattle.rules.specs.Delivery.{State}
-use Rattle.node.specs.Image.{Layout, ownPlace, layout, headerSize, imageSize, rosterIn}
-use Rattle.node.specs.Image.{nodeOf, stateOf, fixedHeader, soundState, soundImage}
+use Rattle.node.specs.Image.{ownPlace, rosterIn}
+use Rattle.node.specs.Layout.{layout, headerSize, imageSize}
+use Rattle.node.specs.declared.layout.Layout.{Layout}
+use Rattle.node.specs.Image.{nodeOf, stateOf, fixedHeader, headed, soundState, soundImage}
 use Rattle.rules.specs.Rules.{firstRule}
 use Rattle.rules.specs.declared.node.Rule.the-variants.{Rest}
 use Rattle.rules.proofs.Firing.{rest-true}
@@ -44,7 +46,7 @@ pub record SoundBytes (L : Layout) (last : ℕ) (b : List ℕ) : Type 0 where
   pub node : Sound (L .window) last (stateOf L b)
 
 module _ (w last : ℕ) (s : State) where
-  sound-node : soundState w last s ≡ true → Sound w last s
+  pub sound-node : soundState w last s ≡ true → Sound w last s
   unfolding soundState
   sound-node e =
       let t = six-true e in
@@ -57,7 +59,7 @@ module _ (w last : ℕ) (s : State) where
         rest = rest-true _ (t .5);
       }
 
-  node-sound : Sound w last s → soundState w last s ≡ true
+  pub node-sound : Sound w last s → soundState w last s ≡ true
   unfolding soundState
   node-sound h =
       rw (
@@ -69,22 +71,38 @@ module _ (w last : ℕ) (s : State) where
         h .rest,
       )
 
+-- what the header's test says
+pub record Headed (L : Layout) (b : List ℕ) : Type 0 where
+  pub header : headerSize ≤ length b
+  pub stated : field 2 b 18 ≤ length b
+  pub fixed : fixedHeader L b ≡ true
+
+pub headed-facts : (L : Layout) (b : List ℕ) → headed L b ≡ true → Headed L b
+unfolding headed
+headed-facts L b e =
+    let header = and-eq-true-iff _ _ .0 e in
+    let stated = and-eq-true-iff _ _ .0 (header .1) in
+    record {
+      header = ltb-false _ _ (not-true _ (header .0));
+      stated = ltb-false _ _ (not-true _ (stated .0));
+      fixed = stated .1;
+    }
+
 module _ (L : Layout) (last : ℕ) (b : List ℕ) where
   pub sound-bytes : soundImage L last b ≡ true → SoundBytes L last b
   unfolding soundImage
   sound-bytes e =
-      let header = and-eq-true-iff _ _ .0 e in
-      let stated = and-eq-true-iff _ _ .0 (header .1) in
-      let fixed = and-eq-true-iff _ _ .0 (stated .1) in
+      let parts = and-eq-true-iff (headed L b) (soundState (L .window) last (stateOf L b)) .0 e in
+      let head = headed-facts L b (parts .0) in
       record {
-        header = ltb-false _ _ (not-true _ (header .0));
-        stated = ltb-false _ _ (not-true _ (stated .0));
-        fixed = fixed .0;
-        node = sound-node (L .window) last (stateOf L b) (fixed .1);
+        header = head .header;
+        stated = head .stated;
+        fixed = head .fixed;
+        node = sound-node (L .window) last (stateOf L b) (parts .1);
       }
 
   pub bytes-sound : SoundBytes L last b → soundImage L last b ≡ true
-  unfolding soundImage
+  unfolding soundImage headed
   bytes-sound h =
       rw (
         le-ltb (length b) headerSize (h .header),

@@ -18,7 +18,7 @@ use Rattle.fields.proofs.Fields.{field-lt}
 use Rattle.fields.proofs.Words.{Words, length-words, words-words}
 use Rattle.sets.specs.Sets.{tickCount, maskBits}
 use Rattle.sets.specs.Ticks.{empty}
-use Rattle.evidence.proofs.Layouts.{length-rows, serials-of-rows}
+use Rattle.evidence.proofs.Layouts.{serials-of-rows}
 use Rattle.evidence.proofs.Encoded.{SetFits, RowsFit, rows-fit, credit-fits, length-credit}
 use Rattle.node.specs.After.{Begins, Follows}
 use Rattle.node.specs.Calls.{bootNumber, freshState, deliverNumber, deliveryOf, imageAfter}
@@ -26,10 +26,13 @@ use Rattle.rules.specs.Delivery.{State, Delivered, settled, delivered}
 use Rattle.rules.specs.Describe.{mostFirings, freshRows}
 use Rattle.rules.specs.Rules.{settle}
 use Rattle.rules.proofs.AtRest.{firingsAlone, firingsTogether, recordsAlone, recordsTogether}
-use Rattle.node.specs.Image.{Layout, layout, headerSize, nodeOf, rowsOf, stateOf, soundImage, putState}
+use Rattle.node.specs.Image.{nodeOf, rowsOf, stateOf, soundImage, putState}
+use Rattle.node.specs.Layout.{layout, headerSize}
+use Rattle.node.specs.declared.layout.Layout.{Layout}
 use Rattle.rules.specs.Clock.{Ordered, Below}
 use Rattle.node.proofs.Fresh.{fresh-lines, fresh-sound}
-use Rattle.node.proofs.Images.{Fine, NodeFits, StateFits, Written, fixed-facts, fixed-test, state-read-back, delivery-read-back}
+use Rattle.node.proofs.Images.{Fine, NodeFits, StateFits, Written, fixed-facts, fixed-test}
+use Rattle.node.proofs.Images.{state-lines, state-read-back, delivery-read-back}
 use Rattle.node.proofs.Sound.{Sound, SoundBytes, sound-bytes, bytes-sound, rows-inside}
 use Rattle.node.proofs.Stays.{sound-after, ordered-after, firings-few, firings-all, records-few, records-below}
 use Rattle.node.proofs.Taken.{Started, boot-taken, Taken, deliver-taken, frame-whole}
@@ -42,7 +45,7 @@ pub record Works (L : Layout) : Type 0 where
   pub wide : 0 < L .window
   pub narrow : L .window ≤ bits
 
--- the layout in service: a window of 64 ticks in masks of 8 bytes
+-- the layout in service: a window of 128 ticks in masks of 16 bytes
 pub in-service : Works layout
 in-service =
     record {
@@ -55,7 +58,7 @@ in-service =
 
 -- ---- an image that a state was written over is sound where the state is
 
-written-sound :
+pub written-sound :
     (L : Layout) (last : ℕ) (b : List ℕ) (s : State) (next : List ℕ)
     → Sound (L .window) last s
     → StateFits L b s
@@ -95,8 +98,7 @@ module _
   late = frame-whole last frame (taken .shape) .tick
 
   count : start .node .lines ≡ length (start .rows)
-  unfolding stateOf nodeOf
-  count = sym (length-rows (L .masks) (getD image 0 0) image headerSize)
+  count = sym (state-lines L image)
 
   -- its clock stays in order
   pub delivery-ordered : Ordered last (start .node) (d .state .node)

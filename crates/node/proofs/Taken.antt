@@ -31,17 +31,19 @@ use Rattle.forms.proofs.Rosters.{Limits}
 use Rattle.forms.proofs.Told.{refusal, told-taken, form-taken, form-roster, none-given, first-given}
 use Rattle.rules.specs.Describe.{room}
 use Rattle.node.specs.Calls.{bootNumber, numberBeforeFrame, deliverNumber}
-use Rattle.node.specs.Image.{Layout, imageSize, rosterIn, soundImage}
+use Rattle.node.specs.Image.{rosterIn, soundImage}
+use Rattle.node.specs.Layout.{imageSize}
+use Rattle.node.specs.declared.layout.Layout.{Layout}
 use Rattle.node.proofs.Sound.{roster-lines}
 
 -- ---- a call with number 0 has passed each test
 
 -- a number of its own where a test fails, and the next one past it
-passed : (t : Bool) (number next : ℕ) → 0 < number → cond t number next ≡ 0 → (t ≡ false) × (next ≡ 0)
+pub passed : (t : Bool) (number next : ℕ) → 0 < number → cond t number next ≡ 0 → (t ≡ false) × (next ≡ 0)
 passed true number next p e = absurd (omega arith)
 passed false number next p e = (refl, e)
 
-past-image : (t : Bool) (next : ℕ) → cond t next 8 ≡ 0 → (t ≡ true) × (next ≡ 0)
+pub past-image : (t : Bool) (next : ℕ) → cond t next 8 ≡ 0 → (t ≡ true) × (next ≡ 0)
 past-image true next e = (refl, e)
 past-image false next e = absurd (omega arith)
 

@@ -50,7 +50,8 @@ use Rattle.node.specs.Calls.{Outcome, refused, booted, deliverNumber, de
 use Rattle.node.specs.Calls.{Reading as Told}
 use Rattle.node.specs.Heard.{imageLeft, accepted}
 use Rattle.node.specs.Image.{modePlace, tickPlace, sentPlace}
-use Rattle.node.specs.Image.{layout, imageSize, rowsOf, nodeOf, stateOf, fixedHeader, putState, soundImage}
+use Rattle.node.specs.Image.{rowsOf, nodeOf, stateOf, fixedHeader, putState, soundImage}
+use Rattle.node.specs.Layout.{layout, imageSize}
 use Rattle.node.specs.Runs.{Call, life}
 use Rattle.node.specs.Sound.{SoundImage}
 use Rattle.node.specs.Table.{bootChecks, deliverChecks, readChecks}
@@ -199,6 +200,13 @@ module _ (image : List ℕ) (port : ℕ) (frame out : List ℕ) where
       → Understated (nodeOf image .lines) (nodeOf image .faults)
       → delivers .number ≡ 8
   deliver-refuses-less wide less = deliver-numbers .exactly 8 .1 (λ short. omega arith, λ sound. sound .full less)
+
+  -- So is one of another layout, by its byte 3: an image from before the window grew has 0 there (02, A8)
+  pub deliver-refuses-others :
+      room ≤ length out
+      → getD image 3 0 ≢ layout .mark
+      → delivers .number ≡ 8
+  deliver-refuses-others wide other = deliver-numbers .exactly 8 .1 (λ short. omega arith, λ sound. other (sound .mark))
 
   given : delivers .number ≡ 0 → deliverNumber layout lastTick image port frame (length out) ≡ 0
   given ok = sym (deliver-told layout lastTick image port frame out) ∙ ok
@@ -420,6 +428,10 @@ module _ (image : List ℕ) where
   -- An image that declares less than the full fault number is refused with 8 (02, A7)
   pub read-refuses-less : Understated (nodeOf image .lines) (nodeOf image .faults) → reads .number ≡ 8
   read-refuses-less less = read-numbers .exactly 8 .1 (λ sound. sound .full less)
+
+  -- So is one of another layout, by its byte 3 (02, A8)
+  pub read-refuses-others : getD image 3 0 ≢ layout .mark → reads .number ≡ 8
+  read-refuses-others other = read-numbers .exactly 8 .1 (λ sound. other (sound .mark))
 
   -- Demand 2. The clock of an active node is k
   pub read-is-k : reads .number ≡ 0 → reads .clock ≡ nodeOf image .tick

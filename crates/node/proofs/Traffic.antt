@@ -35,7 +35,9 @@ use Rattle.rules.proofs.Answering.{delivered-answers, answers-append}
 use Rattle.rules.proofs.Every.{every-map, every-both, every-append}
 use Rattle.rules.proofs.RecordTrip.{Fits, records-back, records-none}
 use Rattle.node.specs.Calls.{bootNumber, freshState, booted, deliverNumber, deliveryOf, imageAfter, deliverOutcome}
-use Rattle.node.specs.Image.{Layout, headerSize, nodeOf, rosterIn, stateOf}
+use Rattle.node.specs.Image.{nodeOf, rosterIn, stateOf}
+use Rattle.node.specs.Layout.{headerSize}
+use Rattle.node.specs.declared.layout.Layout.{Layout}
 use Rattle.node.specs.Runs.{Call, Deliver, Read, called}
 use Rattle.node.specs.Traffic.{recordsOf, sentIn, takenIn, sentOver, takenOver, sentInLife}
 use Rattle.node.proofs.Conditions.{sound-says}

@@ -23,8 +23,9 @@ use Rattle.rules.specs.Rules.{firstRule, fired, said, firing, settle}
 use Rattle.rules.specs.Delivery.{answer, settled, delivered}
 use Rattle.node.specs.Calls.{Outcome, bootNumber, freshState, booted, numberBeforeFrame, deliverNumber, deliveryOf, imageAfter}
 use Rattle.node.specs.Calls.{deliverOutcome}
-use Rattle.node.specs.Image.{layout, imageSize, nodeOf, rowsOf, stateOf, putClock, putFixed, putNode, putState}
-use Rattle.node.specs.Image.{fixedHeader, soundState, soundImage}
+use Rattle.node.specs.Image.{nodeOf, rowsOf, stateOf, putClock, putFixed, putNode, putState}
+use Rattle.node.specs.Layout.{layout, imageSize}
+use Rattle.node.specs.Image.{fixedHeader, headed, soundState, soundImage}
 
 -- ---- bytes, written out by 01's layouts; every number here is below 256
 
@@ -117,7 +118,7 @@ ticksBelow (suc n) s = elim (holds window s n) [ zero ↦ ticksBelow n s | suc k
 
 -- what a serial holds after a call
 abbrev heldFrom : ℕ → Outcome → List ℕ
-heldFrom serial o = ticksBelow 80 (heldUnder (rowsOf layout (o .image)) serial ECHO)
+heldFrom serial o = ticksBelow 140 (heldUnder (rowsOf layout (o .image)) serial ECHO)
 
 -- what is said of each call, one after the other, and of the image that is left
 record Play (A B : Type 0) : Type 0 where
@@ -133,11 +134,16 @@ play says ends (e ∷ es) o =
 -- what 22 holds after one delivery more
 record Held22 : Type 0 where
   with-69 : List ℕ
-  with-70 : List ℕ
+  with-133 : List ℕ
+  with-134 : List ℕ
 
 abbrev held22 : List ℕ → Held22
 held22 image =
-    record { with-69 = heldFrom 22 (deliver image (echo 22 69)); with-70 = heldFrom 22 (deliver image (echo 22 70)) }
+    record {
+      with-69 = heldFrom 22 (deliver image (echo 22 69));
+      with-133 = heldFrom 22 (deliver image (echo 22 133));
+      with-134 = heldFrom 22 (deliver image (echo 22 134));
+    }
 
 -- W2 to W9
 abbrev story : List Event
@@ -187,8 +193,13 @@ settled-examples :
                 ∷ line 1 (all ECHO 4 []) 4 1
                 ∷ line 2 (all INIT 5 (all ECHO 5 [])) 5 1
                 ∷ [];
-            -- W10
-            left = record { with-69 = 69 ∷ 68 ∷ 67 ∷ 6 ∷ []; with-70 = 70 ∷ 69 ∷ 68 ∷ [] };
+            -- W10, worked again with A8's window: the paper's echo 69 drops nothing now, and the edges are at 133 and 134
+            left =
+                record {
+                  with-69 = 69 ∷ 68 ∷ 67 ∷ 6 ∷ 5 ∷ 4 ∷ 0 ∷ [];
+                  with-133 = 133 ∷ 132 ∷ 131 ∷ 6 ∷ [];
+                  with-134 = 134 ∷ 133 ∷ 132 ∷ [];
+                };
           };
       -- A6: 7 firings and 7 records
       alone =
@@ -214,7 +225,7 @@ settled-examples :
           ∷ [];
     })
 unfolding turned onwards ticksBelow play booted bootNumber freshState deliverOutcome numberBeforeFrame deliverNumber deliveryOf imageAfter
-    formNumber frameNumber rosterNumber count twins soundImage soundState fixedHeader stateOf nodeOf putState putNode putFixed putClock
+    formNumber frameNumber rosterNumber count twins soundImage headed soundState fixedHeader stateOf nodeOf putState putNode putFixed putClock
     freshRows field putField words putFrame putRecord putRecords rowsAt rowAt setAt putRows putRow putSet properRows properSet
     proper delivered settled answer settle firing firstRule fired said credit creditOf creditRow setOf holders heldUnder greatest
     bestAmong bestOf firstDown holds bit insert insertAll raised marked run added add

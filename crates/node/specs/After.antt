@@ -9,7 +9,9 @@ use Rattle.fields.specs.Field.{field}
 use Rattle.evidence.specs.Rows.{rowSize}
 use Rattle.rules.specs.Delivery.{Delivered}
 use Rattle.node.specs.Calls.{freshState}
-use Rattle.node.specs.Image.{Layout, headerSize, stateOf, soundImage}
+use Rattle.node.specs.Image.{stateOf, soundImage}
+use Rattle.node.specs.Layout.{headerSize}
+use Rattle.node.specs.declared.layout.Layout.{Layout}
 
 -- after boot: the fresh node of the form
 pub record Begins (L : Layout) (last : ℕ) (image form next : List ℕ) : Type 0 where

@@ -13,7 +13,9 @@ use Rattle.forms.specs.Column.{count}
 use Rattle.evidence.specs.Rows.{putRows}
 use Rattle.rules.specs.Delivery.{State, Delivered, delivered}
 use Rattle.rules.specs.Describe.{room, freshNode, freshRows, bootRecords}
-use Rattle.node.specs.Image.{Layout, headerSize, modePlace, tickPlace, imageSize, rosterIn, stateOf, putClock, putState, soundImage}
+use Rattle.node.specs.Image.{modePlace, tickPlace, rosterIn, stateOf, putClock, putState, soundImage}
+use Rattle.node.specs.Layout.{headerSize, imageSize}
+use Rattle.node.specs.declared.layout.Layout.{Layout}
 use Rattle.rules.specs.Record.{putRecords}
 
 -- number, count of records, rules fired, and every byte of image and output at exit

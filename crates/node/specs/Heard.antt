@@ -6,7 +6,7 @@ use mathlib.Core.Bool.{cond}
 use lib.Dec.{eqb}
 use Rattle.sets.specs.History.{Sent}
 use Rattle.rules.specs.Answering.{Arrival}
-use Rattle.node.specs.Image.{Layout}
+use Rattle.node.specs.declared.layout.Layout.{Layout}
 use Rattle.node.specs.Runs.{Call, called}
 use Rattle.node.specs.Traffic.{takenOver}
 

@@ -1,23 +1,18 @@
--- The node image (01, "Layouts" and "One delivery"): bytes to node and back, and when an image is sound. The layout is a small
--- record, so that another window with wider masks is another value of it and not another definition.
-use Prim.Native.Nat.{ℕ, _+_, _*_, _≤_, _<_}
+-- The node image (01, "Layouts" and "One delivery"): bytes to node and back, and when an image is sound, each for any layout.
+use Prim.Native.Nat.{ℕ, _≤_, _<_}
 use mathlib.Core.List.{List}
 use mathlib.Core.Bool.{Bool, not, _&&_}
 use lib.ListN.{length, getD}
 use lib.Dec.{ltb, leb, eqb}
 use Rattle.fields.specs.Field.{field, putField, words}
 use Rattle.forms.specs.Roster.{mostLines, rosterNumber}
-use Rattle.sets.specs.Sets.{maskBytes}
 use Rattle.evidence.specs.Serials.{serialsIn}
 use Rattle.evidence.specs.Rows.{Row, rowSize, rowsAt, putRows, properRows}
 use Rattle.rules.specs.Rules.{firstRule, atRest}
 use Rattle.rules.specs.Delivery.{State}
-use Rattle.rules.specs.Describe.{window}
 use Rattle.rules.specs.declared.node.Node.{Node}
-
--- bytes of the header; the rows stand behind it
-abbrev pub headerSize : ℕ
-headerSize = 32
+use Rattle.node.specs.Layout.{headerSize, imageSize}
+use Rattle.node.specs.declared.layout.Layout.{Layout}
 
 -- where mode, own serial, k and last echo sent stand in it
 abbrev pub modePlace : ℕ
@@ -31,22 +26,6 @@ tickPlace = 8
 
 abbrev pub sentPlace : ℕ
 sentPlace = 12
-
--- the window, the bytes of a mask, and header byte 3
-pub record Layout : Type 0 where
-  pub window : ℕ
-  pub masks : ℕ
-  pub mark : ℕ
-
-abbrev pub layout : Layout
-layout = record { window = window; masks = maskBytes; mark = 0 }
-
-abbrev pub imageSize : Layout → ℕ → ℕ
-imageSize L n = headerSize + n * rowSize (L .masks)
-
--- the longest image in service
-abbrev pub mostImage : ℕ
-mostImage = imageSize layout mostLines
 
 -- ---- bytes to node
 
@@ -120,8 +99,10 @@ soundState w last s =
     && (leb (s .node .mode) 1 && (leb (s .node .sent) (s .node .tick) && (leb (s .node .tick) last
     && (properRows w last (s .rows) && atRest (firstRule w last (s .rows) (s .node))))))
 
+-- buffer not shorter than 32 nor than its stated size, and the fixed header values
+unfoldable pub headed : Layout → List ℕ → Bool
+headed L b = not (ltb (length b) headerSize) && (not (ltb (length b) (field 2 b 18)) && fixedHeader L b)
+
 -- number 8: buffer shorter than 32 or than its stated size, or image not sound
 unfoldable pub soundImage : Layout → ℕ → List ℕ → Bool
-soundImage L last b =
-    not (ltb (length b) headerSize) && (not (ltb (length b) (field 2 b 18))
-    && (fixedHeader L b && soundState (L .window) last (stateOf L b)))
+soundImage L last b = headed L b && soundState (L .window) last (stateOf L b)

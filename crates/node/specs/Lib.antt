@@ -3,6 +3,8 @@ pub mod Answers
 pub mod Calls
 pub mod Heard
 pub mod Image
+pub mod Layout
+pub mod Matched
 pub mod Runs
 pub mod Sound
 pub mod Table

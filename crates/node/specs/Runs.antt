@@ -7,7 +7,8 @@ use lib.Dec.{eqb}
 use Rattle.sets.specs.Ticks.{holds}
 use Rattle.evidence.specs.Rows.{Row, setOf}
 use Rattle.node.specs.Calls.{Outcome, Reading, booted, deliverOutcome, reading}
-use Rattle.node.specs.Image.{Layout, nodeOf, rowsOf}
+use Rattle.node.specs.Image.{nodeOf, rowsOf}
+use Rattle.node.specs.declared.layout.Layout.{Layout}
 
 -- a call: a frame delivered from a port, with the output lent to it; or a read
 pub data Call : Type 0 where

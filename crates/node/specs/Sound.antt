@@ -11,7 +11,9 @@ use Rattle.sets.specs.Ticks.{Held, bit}
 use Rattle.evidence.specs.Rows.{Row}
 use Rattle.evidence.specs.Serials.{serialsIn}
 use Rattle.rules.specs.Which.{R1, R2, R3, R4, R5}
-use Rattle.node.specs.Image.{Layout, imageSize, headerSize, nodeOf, rowsOf}
+use Rattle.node.specs.Image.{nodeOf, rowsOf}
+use Rattle.node.specs.Layout.{imageSize, headerSize}
+use Rattle.node.specs.declared.layout.Layout.{Layout}
 
 -- a set as a sound image may hold it
 pub record SoundSet (w last : ℕ) (s : Held) : Type 0 where
@@ -23,7 +25,7 @@ pub record SoundSet (w last : ℕ) (s : Held) : Type 0 where
   pub empty : s .mask ≡ 0 → s .top ≡ 0
   -- no bit i above its top: there is no tick top - i
   pub in-top : (i : ℕ) → bit (s .mask) i ≡ 1 → i ≤ s .top
-  -- and none outside the window. (In masks of 8 bytes, with a window of 64, there is no room for one)
+  -- and none outside the window. (Where a mask has as many bits as the window ticks, there is no room for one)
   pub in-window : (i : ℕ) → bit (s .mask) i ≡ 1 → i < w
 
 pub record SoundImage (L : Layout) (last : ℕ) (b : List ℕ) : Type 0 where

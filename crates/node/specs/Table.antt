@@ -8,7 +8,9 @@ use lib.ListN.{length, getD}
 use Rattle.forms.specs.Form.{linesOf}
 use Rattle.forms.specs.Table.{Check, _when_, formChecks, frameChecks}
 use Rattle.rules.specs.Describe.{room}
-use Rattle.node.specs.Image.{Layout, modePlace, imageSize, rosterIn}
+use Rattle.node.specs.Image.{modePlace, rosterIn}
+use Rattle.node.specs.Layout.{imageSize}
+use Rattle.node.specs.declared.layout.Layout.{Layout}
 use Rattle.node.specs.Sound.{SoundImage}
 
 -- the form's own, 6, 7

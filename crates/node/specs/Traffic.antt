@@ -8,7 +8,7 @@ use Rattle.forms.specs.Frame.{frameAt}
 use Rattle.rules.specs.Answering.{Arrival}
 use Rattle.rules.specs.Record.{Outgoing, recordsAt}
 use Rattle.node.specs.Calls.{Outcome, booted, deliverOutcome}
-use Rattle.node.specs.Image.{Layout}
+use Rattle.node.specs.declared.layout.Layout.{Layout}
 use Rattle.node.specs.Runs.{Call, Deliver, Read, called}
 
 -- ---- one call

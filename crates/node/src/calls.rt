@@ -1,6 +1,5 @@
 // The calls on byte buffers: boot, deliver and read. Nothing has to be checked beforehand: every form, image, port, frame and output
 // is handled. A refusal gives its number and changes no byte. Crate `pebrassola` exports these calls to C, so the answers are C structs.
-use crate::image::HEADER;
 use crate::image::MODE_PLACE;
 use crate::image::TICK_PLACE;
 use crate::image::is_sound;
@@ -8,6 +7,7 @@ use crate::image::put_clock;
 use crate::image::put_fresh_rows;
 use crate::image::put_node;
 use crate::image::read_node;
+use crate::layout::HEADER;
 use evidence::rows::ROW;
 use fields::field::word;
 use fields::kind::ECHO;
@@ -23,7 +23,7 @@ ghost use mathlib.Core.Path.{_≡_};
 ghost use Rattle.node.specs.Answers.{outcomeBy, readingBy};
 ghost use Rattle.node.specs.Calls.{booted, numberBeforeFrame, deliverOutcome, reading};
 ghost use Rattle.rules.specs.Describe.{lastTick};
-ghost use Rattle.node.specs.Image.{layout};
+ghost use Rattle.node.specs.Layout.{layout};
 
 // The number of a call, the records that stand in the output, and how many times a rule fired.
 #[repr(C)]

@@ -1,9 +1,10 @@
 // The node image in lent bytes: its header read and written, its rows made, and whether it is sound.
-use evidence::rows::ECHO_PLACE;
-use evidence::rows::INIT_PLACE;
+use crate::layout::HEADER;
+use crate::layout::Layout;
+use crate::layout::OFFSET;
 use evidence::rows::ROW;
 use evidence::rows::are_proper;
-use evidence::rows::store_set;
+use evidence::rows::put_row;
 use fields::field::half;
 use fields::field::put_half;
 use fields::field::put_word;
@@ -23,16 +24,9 @@ ghost use Rattle.forms.specs.Roster.{mostLines};
 ghost use Rattle.sets.specs.Sets.{maskBytes};
 ghost use Rattle.evidence.specs.Rows.{putRows};
 ghost use Rattle.rules.specs.Describe.{window, lastTick, freshRows};
-ghost use Rattle.node.specs.Image.{layout, headerSize, imageSize, nodeOf, stateWith, fixedHeader};
+ghost use Rattle.node.specs.Image.{nodeOf, stateWith, fixedHeader, headed};
+ghost use Rattle.node.specs.Layout.{layout, headerSize, imageSize};
 ghost use Rattle.node.specs.Image.{Writable, putClock, putFixed, putNode, soundState, soundImage};
-
-// Bytes of the header; the rows stand behind it.
-pub(crate) const HEADER: usize = 32;
-
-// Offset and size of the rows as the header's fields state them.
-const OFFSET: u32 = HEADER as u32;
-
-const STRIDE: u32 = ROW as u32;
 
 // Bytes of the longest image.
 pub const MOST_IMAGE: usize = HEADER + MOST_LINES * ROW;
@@ -46,11 +40,8 @@ pub const TICK_PLACE: usize = 8;
 
 const SENT_PLACE: usize = 12;
 
-// Byte 3, which tells this form of an image from others.
-const MARK: u8 = 0;
-
 // The node of a header.
-pub(crate) fn read_node(b: &[u8]) -> Node
+pub fn read_node(b: &[u8]) -> Node
     requires { ⌜ headerSize ≤ length (now b) ⌝ }
     ensures { λ r. ⌜ r ≡ nodeOf (now (b .entry)) ⌝ }
 {
@@ -64,13 +55,13 @@ pub(crate) fn read_node(b: &[u8]) -> Node
     }
 }
 
-// Byte 3, the offset of the rows, the whole size, and the zeros behind it.
-fn has_fixed_header(b: &[u8]) -> bool
+// Byte 3, the offset of the rows, the whole size, and the zeros behind it, as a layout has them.
+fn has_fixed_header(b: &[u8], layout: Layout) -> bool
     requires { ⌜ headerSize ≤ length (now b) ⌝ }
     ensures { λ r. ⌜ r ≡ fixedHeader layout (now (b .entry)) ⌝ }
 {
-    let size = OFFSET + STRIDE * (b[0] as u32);
-    if b[3] != MARK {
+    let size = layout.size(b[0] as u32);
+    if b[3] != layout.mark {
         return false;
     }
     if half(b, 16) != OFFSET {
@@ -86,6 +77,19 @@ fn has_fixed_header(b: &[u8]) -> bool
         return false;
     }
     word(b, 28) == 0
+}
+
+// Whether a buffer begins with a header of this layout, and has the rows that it states.
+pub fn has_header(b: &[u8], layout: Layout) -> bool
+    ensures { λ r. ⌜ r ≡ headed layout (now (b .entry)) ⌝ }
+{
+    if b.len() < HEADER {
+        return false;
+    }
+    if b.len() < half(b, 18) as usize {
+        return false;
+    }
+    has_fixed_header(b, layout)
 }
 
 // Whether the node and its rows are as a sound image holds them.
@@ -116,13 +120,7 @@ fn is_sound_state(b: &[u8], node: Node) -> bool
 pub(crate) fn is_sound(b: &[u8]) -> bool
     ensures { λ r. ⌜ r ≡ soundImage layout lastTick (now (b .entry)) ⌝ }
 {
-    if b.len() < HEADER {
-        return false;
-    }
-    if b.len() < half(b, 18) as usize {
-        return false;
-    }
-    if !has_fixed_header(b) {
+    if !has_header(b, Layout::in_service()) {
         return false;
     }
     is_sound_state(b, read_node(b))
@@ -139,24 +137,24 @@ pub(crate) fn put_clock(b: &mut [u8], node: Node)
 }
 
 // Writes the fixed values of a header for n rows.
-fn put_fixed(b: &mut [u8], n: u32)
+fn put_fixed(b: &mut [u8], layout: Layout, n: u32)
     requires { ⌜ (headerSize ≤ length (now b)) × (n ≤ mostLines) ⌝ }
     ensures { λ _. ⌜ now (b .exit) ≡ putFixed layout (now (b .entry)) n ⌝ }
 {
-    b[3] = MARK;
+    b[3] = layout.mark;
     put_half(b, 16, OFFSET);
-    put_half(b, 18, OFFSET + n * STRIDE);
+    put_half(b, 18, layout.size(n));
     put_word(b, 20, 0);
     put_word(b, 24, 0);
     put_word(b, 28, 0);
 }
 
 // Writes a whole header.
-pub(crate) fn put_node(b: &mut [u8], node: Node)
+pub fn put_node(b: &mut [u8], node: Node)
     requires { ⌜ Writable node (now b) ⌝ }
     ensures { λ _. ⌜ now (b .exit) ≡ putNode layout (now (b .entry)) node ⌝ }
 {
-    put_fixed(b, node.lines);
+    put_fixed(b, Layout::in_service(), node.lines);
     b[0] = node.lines as u8;
     b[1] = node.faults as u8;
     put_word(b, OWN_PLACE, node.own);
@@ -171,10 +169,8 @@ pub(crate) fn put_fresh_rows(b: &mut [u8], form: &[u8], n: usize)
 {
     let mut k = 0;
     while k < n {
-        let at = HEADER + k * ROW;
-        put_word(b, at, word(form, SERIALS + k * 4));
-        store_set(b, at + ECHO_PLACE, Ticks::none());
-        store_set(b, at + INIT_PLACE, Ticks::none());
+        let serial = word(form, SERIALS + k * 4);
+        put_row(b, HEADER + k * ROW, serial, Ticks::none(), Ticks::none());
         k += 1;
     }
 }

@@ -7,7 +7,7 @@ use text::decimal::put_decimal;
 use text::put::put_text;
 ghost use mathlib.Core.List.{[], _∷_, _++_};
 ghost use Rattle.rules.specs.Describe.{lastTick};
-ghost use Rattle.node.specs.Image.{layout};
+ghost use Rattle.node.specs.Layout.{layout};
 ghost use Rattle.text.specs.Characters.{newline};
 ghost use Rattle.text.specs.Puts.{Puts};
 ghost use Rattle.packs.specs.Answers.{packBy};

@@ -9,7 +9,7 @@ use Rattle.fields.specs.Field.{Bytes}
 use Rattle.rules.specs.Describe.{lastTick}
 use Rattle.node.specs.Calls.{reading}
 use Rattle.node.specs.Heard.{imageLeft}
-use Rattle.node.specs.Image.{layout}
+use Rattle.node.specs.Layout.{layout}
 use Rattle.node.specs.Runs.{Call}
 use Rattle.node.proofs.Theorems.{clock-never-falls}
 use Rattle.packs.specs.Number.{notLicensed, notInForce}

@@ -9,7 +9,8 @@ use Rattle.fields.specs.Field.{field, putField}
 use Rattle.forms.specs.Column.{howMany, count, twins}
 use Rattle.rules.specs.Describe.{lastTick}
 use Rattle.node.specs.Calls.{readNumber}
-use Rattle.node.specs.Image.{layout, fixedHeader, soundImage}
+use Rattle.node.specs.Image.{fixedHeader, headed, soundImage}
+use Rattle.node.specs.Layout.{layout}
 use Rattle.packs.specs.Number.{notLicensed, notInForce, inForce}
 use Rattle.packs.specs.Sheet.{entrySize, mostEntries, entriesIn, entriesOf, packs, entriesNumber}
 use Rattle.packs.specs.Sheet.{entriesPlace, misplaced, sheetNumber, sheetTold, entryOn, Reordered}
@@ -50,7 +51,7 @@ reordered = record { size = refl; front = refl; entries = List·Permᴰ·swap re
 
 -- an image that is refused is refused first, whatever the sheet is
 image-first : packTold layout lastTick [] 9 [] ≡ refusedPack 8
-unfolding packTold packNumber readNumber soundImage fixedHeader
+unfolding packTold packNumber readNumber soundImage headed fixedHeader
 image-first = refl
 
 -- line by line, and past the last line

@@ -16,7 +16,7 @@ use Rattle.forms.proofs.Meaning.{Decides, less, equal, opposite, either, both, 
 use Rattle.forms.proofs.Meaning.{member-says, twice-says}
 use Rattle.forms.proofs.RoundTrip.{refused-bytes}
 use Rattle.node.specs.Calls.{readNumber, reading}
-use Rattle.node.specs.Image.{Layout}
+use Rattle.node.specs.declared.layout.Layout.{Layout}
 use Rattle.node.proofs.Numbers.{read-then}
 use Rattle.node.proofs.Outcomes.{read-told}
 use Rattle.forms.proofs.Told.{none-given}

@@ -13,7 +13,7 @@ use Rattle.forms.specs.Column.{howMany}
 use Rattle.forms.proofs.Order.{count-order, twins-order}
 use Rattle.forms.specs.Number.{orElse}
 use Rattle.node.specs.Calls.{readNumber, reading}
-use Rattle.node.specs.Image.{Layout}
+use Rattle.node.specs.declared.layout.Layout.{Layout}
 use Rattle.forms.proofs.Told.{none-given}
 use Rattle.packs.specs.Question.{entryInForce, licence, PackTold, refusedPack, packNumber, packTold}
 use Rattle.packs.specs.Sheet.{entriesPlace, entriesIn, entriesOf, backward}

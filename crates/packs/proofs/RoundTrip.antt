@@ -20,7 +20,7 @@ use Rattle.forms.specs.Form.{WriteTold, writeTold}
 use Rattle.forms.specs.Number.{orElse}
 use Rattle.forms.proofs.RoundTrip.{wrote, wrote-bytes, kept-bytes}
 use Rattle.node.specs.Calls.{readNumber, reading}
-use Rattle.node.specs.Image.{Layout}
+use Rattle.node.specs.declared.layout.Layout.{Layout}
 use Rattle.packs.specs.Question.{licence, PackTold, refusedPack, packNumber, packTold, entriesSay}
 use Rattle.packs.specs.Sheet.{entriesPlace, entrySize, mostEntries, sheetSize, entriesIn, countOf, offsetOf, entriesOf, packs}
 use Rattle.packs.specs.Sheet.{entriesNumber, sheetNumber, sheetTold, entryOn, noEntry, Reordered}

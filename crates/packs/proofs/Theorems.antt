@@ -5,7 +5,7 @@
 -- Assumes nothing.
 use mathlib.Core.Path.{_≡_, sym, _∙_, subst}
 use mathlib.Core.Bool.{true}
-use mathlib.Core.Logic.{_↔_}
+use mathlib.Core.Logic.{_↔_, _≢_}
 use mathlib.Core.List.{List, _++_, List·Memᴰ, List·Permᴰ}
 use Prim.Native.Nat.{ℕ, _≤_}
 use lib.ListN.{length, getD, drop}
@@ -15,7 +15,8 @@ use Rattle.forms.specs.Table.{Says, Understated}
 use Rattle.rules.specs.Describe.{lastTick}
 use Rattle.node.specs.Calls.{reading}
 use Rattle.node.specs.Heard.{imageLeft}
-use Rattle.node.specs.Image.{layout, nodeOf}
+use Rattle.node.specs.Image.{nodeOf}
+use Rattle.node.specs.Layout.{layout}
 use Rattle.node.specs.Runs.{Call}
 use Rattle.packs.specs.Number.{notLicensed, notInForce, inForce}
 use Rattle.packs.specs.Question.{licence, PackTold, refusedPack, packTold, entriesSay}
@@ -72,6 +73,10 @@ module _ (sheet : List ℕ) (pack : ℕ) (image : List ℕ) where
   -- An image that declares less than the full fault number is refused with 8 (02, A7)
   pub pack-refuses-less : Understated (nodeOf image .lines) (nodeOf image .faults) → asked .number ≡ 8
   pack-refuses-less less = pack-numbers .exactly 8 .1 (λ sound. sound .full less)
+
+  -- So is one of another layout, by its byte 3: an image from before the window grew has 0 there (02, A8)
+  pub pack-refuses-others : getD image 3 0 ≢ layout .mark → asked .number ≡ 8
+  pack-refuses-others other = pack-numbers .exactly 8 .1 (λ sound. other (sound .mark))
 
   -- A refusal says nothing of the pack
   pub pack-refused : (asked .number ≡ 0 → ⊥) → asked ≡ refusedPack (asked .number)

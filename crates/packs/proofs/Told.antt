@@ -12,7 +12,7 @@ use borrow.Author.Tests.{ltb-false, eqb-true, not-false}
 use Rattle.forms.specs.Column.{howMany, count, twins}
 use Rattle.node.specs.Calls.{readNumber, reading}
 use Rattle.node.specs.Image.{modePlace, soundImage}
-use Rattle.node.specs.Image.{Layout as ImageLayout}
+use Rattle.node.specs.declared.layout.Layout.{Layout as ImageLayout}
 use Rattle.packs.specs.Number.{numberOf}
 use Rattle.packs.specs.Question.{licence, packNumber, packTold, refusedPack}
 use Rattle.packs.specs.Sheet.{entriesPlace, mostEntries, sheetSize, countOf, offsetOf, entriesOf, misplaced}

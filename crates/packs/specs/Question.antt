@@ -8,7 +8,7 @@ use lib.Dec.{leb, ltb, eqb}
 use Rattle.forms.specs.Number.{orElse}
 use Rattle.forms.specs.Column.{howMany, count}
 use Rattle.node.specs.Calls.{readNumber, reading}
-use Rattle.node.specs.Image.{Layout}
+use Rattle.node.specs.declared.layout.Layout.{Layout}
 use Rattle.packs.specs.Number.{numberOf, licenceOf, notLicensed, notInForce, inForce}
 use Rattle.packs.specs.Sheet.{packs, entriesOf, sheetNumber}
 use Rattle.packs.specs.declared.question.Asked.{Asked}

@@ -6,7 +6,7 @@ use mathlib.Core.List.{List, [], _∷_, _++_, List·Memᴰ}
 use Prim.Native.Nat.{ℕ, _*_, _%_, _≤_, _<_}
 use lib.ListN.{length}
 use Rattle.forms.specs.Table.{_or_, Check, _when_, Twice, roomCheck}
-use Rattle.node.specs.Image.{Layout}
+use Rattle.node.specs.declared.layout.Layout.{Layout}
 use Rattle.node.specs.Table.{readChecks}
 use Rattle.packs.specs.Sheet.{entriesPlace, entrySize, mostEntries, sheetSize, countOf, offsetOf, entriesOf, packs}
 use Rattle.packs.specs.Writer.{entriesGiven}

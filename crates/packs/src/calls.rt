@@ -5,7 +5,7 @@ use crate::writer;
 use crate::writer::Written;
 ghost use mathlib.Core.Path.{_≡_};
 ghost use Rattle.rules.specs.Describe.{lastTick};
-ghost use Rattle.node.specs.Image.{layout};
+ghost use Rattle.node.specs.Layout.{layout};
 ghost use Rattle.packs.specs.Answers.{packBy, sheetBy};
 ghost use Rattle.packs.specs.Question.{packTold};
 ghost use Rattle.packs.specs.Writer.{sheetWritten};

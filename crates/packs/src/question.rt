@@ -12,7 +12,7 @@ use node::calls::read;
 ghost use mathlib.Core.Path.{_≡_};
 ghost use Rattle.rules.specs.Describe.{lastTick};
 ghost use Rattle.forms.specs.Column.{howMany};
-ghost use Rattle.node.specs.Image.{layout};
+ghost use Rattle.node.specs.Layout.{layout};
 ghost use Rattle.packs.specs.Number.{licenceOf};
 ghost use Rattle.packs.specs.Sheet.{entriesPlace, entriesIn};
 ghost use Rattle.packs.specs.Steps.{Lines};

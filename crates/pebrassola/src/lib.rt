@@ -1,6 +1,7 @@
 // What truck firmware in C links: the exported functions and nothing else. Each is one call of the crate that owns it, under the same
 // contract. The C caller's only duty is that the buffers are real memory of the stated length and do not overlap.
 // include/pebrassola.h declares them.
+use converter::calls::Conversion;
 use node::calls;
 use node::calls::Answer;
 use node::calls::Reading;
@@ -10,7 +11,9 @@ ghost use mathlib.Core.Path.{_≡_};
 ghost use Rattle.rules.specs.Describe.{lastTick};
 ghost use Rattle.node.specs.Answers.{outcomeBy, readingBy};
 ghost use Rattle.node.specs.Calls.{booted, deliverOutcome, reading};
-ghost use Rattle.node.specs.Image.{layout};
+ghost use Rattle.node.specs.Layout.{layout, oldLayout};
+ghost use Rattle.converter.specs.Answers.{convertedBy};
+ghost use Rattle.converter.specs.Convert.{converted};
 ghost use Rattle.packs.specs.Answers.{packBy, sheetBy};
 ghost use Rattle.packs.specs.Question.{packTold};
 ghost use Rattle.packs.specs.Writer.{sheetWritten};
@@ -44,6 +47,15 @@ pub extern "C" fn pebrassola_read(image: &[u8]) -> Reading
     ensures { λ r. ⌜ readingBy r ≡ reading layout lastTick (now (image .entry)) ⌝ }
 {
     calls::read(image)
+}
+
+// Writes an image from before the window grew in the layout in service.
+#[no_mangle]
+pub extern "C" fn pebrassola_convert(old: &[u8], image: &mut [u8]) -> Conversion
+    ensures { λ r. ⌜ convertedBy r (now (image .exit))
+        ≡ converted oldLayout layout lastTick (now (old .entry)) (now (image .entry)) ⌝ }
+{
+    converter::calls::convert(old, image)
 }
 
 // Whether a pack is in force at the clock of a node.

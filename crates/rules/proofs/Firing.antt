@@ -2,7 +2,7 @@
 -- over it that every other law about settling cites.
 -- Assumes nothing.
 use mathlib.Core.Path.{_≡_, refl, sym, ap, _∙_, subst}
-use mathlib.Core.Bool.{Bool, true, false, cond, _||_, false≢true, and-eq-true-iff}
+use mathlib.Core.Bool.{Bool, true, false, cond, _&&_, _||_, false≢true, and-eq-true-iff}
 use mathlib.Core.Logic.{_⊎_, inl, inr}
 use mathlib.Core.List.{List, [], _∷_}
 use Prim.Native.Nat.{ℕ, zero, suc, _+_, _-_, _≤_, _<_}
@@ -13,7 +13,7 @@ use lib.ListN.{length}
 use Rattle.fields.specs.Kind.{INIT, ECHO}
 use Rattle.evidence.specs.Rows.{Row}
 use Rattle.evidence.specs.Holders.{holders, greatest}
-use Rattle.evidence.proofs.Greatest.{greatest-held}
+use Rattle.evidence.proofs.Greatest.{greatest-held, greatest-same}
 use Rattle.rules.specs.Record.{Outgoing, Every, broadcast}
 use Rattle.rules.specs.Rules.{canR1, canR2, canR3, jumpTo, wakeAt, orJump, orWake, firstRule, atRest, woken}
 use Rattle.rules.specs.Rules.{fired, said, Settled, still, follows, firing, settle}
@@ -48,6 +48,21 @@ first-rule w last rows p =
     go : (a b : Bool) (rule : Rule) → cond a Echo (cond b Echo rule) ≡ cond (a || b) Echo rule
     go true b rule = refl
     go false b rule = refl
+
+-- it looks at rows through counts alone: where each tick has as many holders of either kind, be it in another window too, it is the same
+pub rule-same :
+    (v w last : ℕ) (rows others : List Row)
+    → ((kind t : ℕ) → holders v kind t rows ≡ holders w kind t others)
+    → (p : Node)
+    → firstRule v last rows p ≡ firstRule w last others p
+unfolding firstRule
+rule-same v w last rows others same p =
+    λ d.
+    cond (leb (p .faults + 1) (same INIT (p .tick) d) && ltb (p .sent) (p .tick)) Echo
+    (cond (leb (p .faults + 1) (same ECHO (p .tick) d) && ltb (p .sent) (p .tick)) Echo
+    (cond (leb (p .lines - p .faults) (same ECHO (p .tick) d) && ltb (p .tick) last) Tick
+    (orJump (greatest-same v w ECHO (p .faults + 1) (p .tick + 2) rows others (same ECHO) d)
+    (orWake (cond (eqb (p .mode) 0) (greatest-same v w INIT (p .faults + 1) 0 rows others (same INIT) d) 0)))))
 
 -- ---- what a rule that comes first tells
 

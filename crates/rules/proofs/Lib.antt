@@ -9,4 +9,5 @@ pub mod Records
 pub mod Sent
 pub mod Single
 pub mod Which
+pub mod Wider
 pub mod Within

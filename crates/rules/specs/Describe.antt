@@ -10,7 +10,7 @@ use Rattle.rules.specs.Record.{Outgoing, broadcast, recordSize}
 use Rattle.rules.specs.declared.node.Node.{Node}
 
 abbrev pub window : ℕ
-window = 64
+window = 128
 
 abbrev pub lastTick : ℕ
 lastTick = 4000000000

@@ -79,7 +79,7 @@ fn greater(a: u32, b: u32) -> u32
 }
 
 impl Node {
-    pub const WINDOW: u32 = 64;
+    pub const WINDOW: u32 = 128;
 
     pub const LAST_TICK: u32 = 4_000_000_000;
 

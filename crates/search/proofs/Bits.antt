@@ -1,8 +1,8 @@
--- Laws of the bits of words that are joined, shifted down or filled, and of the counters that they make.
+-- Laws of the bits of words that are joined or filled, and of the counters that they make.
 -- Assumes nothing.
-use mathlib.Core.Path.{_≡_, sym, ap, ap₂, _∙_}
+use mathlib.Core.Path.{_≡_, ap, ap₂, _∙_}
 use Prim.Native.Nat.{ℕ, zero, suc, _+_, _-_, _*_, _/_, _%_, _^_, _<_, min, max}
-use native.Mathlib.Nat.{div-div-eq-div-mul, pow-suc, pow-succ', add-zero, add-suc}
+use native.Mathlib.Nat.{pow-suc}
 use native.Mathlib.Omega.{arith}
 use lib.Pow.{pow-pos}
 use lib.Bits.{differ, bitAnd, bitOr, bitXor, and-step, or-step, xor-step, and-shr, or-shr, xor-shr}
@@ -47,14 +47,6 @@ bit-or a b d =
     let x = a / 2 ^ d in
     let y = b / 2 ^ d in
     omega (arith, ap (λ (z : ℕ). z % 2) (or-shr a b d), or-step x y)
-
--- ---- shifted down
-
-pub shift-down : (m k d : ℕ) → bit (m / 2 ^ k) d ≡ bit m (d + k)
-shift-down m zero d = ap₂ bit (omega arith) (sym (add-zero d))
-shift-down m (suc k) d =
-    ap (λ (x : ℕ). bit x d) (ap (λ (x : ℕ). m / x) (pow-succ' 2 k) ∙ sym (div-div-eq-div-mul m 2 (2 ^ k)))
-    ∙ shift-down (m / 2) k d ∙ sym (bit-suc m (d + k)) ∙ ap (bit m) (sym (add-suc d k))
 
 -- ---- filled
 

@@ -3,15 +3,17 @@
 -- Assumes nothing.
 use mathlib.Core.Path.{_≡_, sym, ap, _∙_}
 use mathlib.Core.List.{List}
-use Prim.Native.Nat.{ℕ, zero, suc, _+_, _-_, _≤_, _<_, max}
+use Prim.Native.Nat.{ℕ, zero, suc, _+_, _-_, _^_, _≤_, _<_, max}
 use native.Mathlib.Decide.{decLt}
 use native.Mathlib.Omega.{arith}
 use Rattle.evidence.specs.Holders.{holders, bestOf, greatest}
 use Rattle.evidence.specs.Rows.{Row}
+use Rattle.sets.specs.Sets.{wordBits}
 use Rattle.sets.specs.Ticks.{Held, bit, holds}
 use Rattle.evidence.proofs.Greatest.{held-place, best-held, best-most, greatest-none, greatest-is}
+use Rattle.sets.proofs.Masks.{bit-out}
 use Rattle.sets.proofs.Members.{holds-at}
-use Rattle.search.specs.Scan.{Scanned}
+use Rattle.search.specs.Scan.{view, Scanned}
 use Rattle.search.specs.declared.scan.Seen.{Seen}
 use Rattle.search.proofs.Bits.{bit-none}
 
@@ -24,10 +26,22 @@ module _ (w kind m low : ℕ) (rows : List Row) where
   abbrev pub lookedAt : ℕ → Seen → Held
   lookedAt x seen = record { top = x - 1; mask = seen .held }
 
-  module _ {short x : ℕ} {seen : Seen} (few : short ≤ max 1 m) (look : Scanned w kind short x rows seen) where
+  module _ {short x : ℕ} {seen : Seen} (small : seen .held < 2 ^ wordBits) (few : short ≤ max 1 m) (look : Scanned w kind short x rows seen) where
     -- a tick that is held by m rows and is among those looked at
-    member : (t : ℕ) → t < x → x ≤ t + w → max 1 m ≤ holders w kind t rows → holds w (lookedAt x seen) t ≡ 1
+    member : (t : ℕ) → t < x → x ≤ t + view w → max 1 m ≤ holders w kind t rows → holds w (lookedAt x seen) t ≡ 1
     member t p q r = holds-at w (lookedAt x seen) t (x - 1 - t) (omega arith) (omega arith) ∙ look .shown t p q (omega arith)
+
+    -- what the word shows stands in the word
+    near-held : (t : ℕ) → holds w (lookedAt x seen) t ≡ 1 → (t ≤ x - 1) × (x - 1 - t < view w)
+    near-held t s =
+        let near = held-place w (lookedAt x seen) t s in
+        let d = x - 1 - t in
+        elim (decLt d wordBits) [
+          | yes p ↦ (near .0, omega (arith, near .1))
+          | no p ↦
+              let here = holds-at w (lookedAt x seen) t d (omega (arith, near .0)) (omega (arith, near .1)) in
+              absurd (omega (arith, s, here, bit-out (seen .held) wordBits d small (omega arith)))
+        ]
 
     -- nothing is found among them
     pub none-further :
@@ -38,7 +52,7 @@ module _ (w kind m low : ℕ) (rows : List Row) where
         elim (decLt t x) [
           | no n ↦ above t (omega arith) l r
           | yes q ↦
-              elim (decLt (t + w) x) [
+              elim (decLt (t + view w) x) [
                 | yes s ↦ absurd (omega (arith, look .between t s p, few))
                 | no s ↦ none t q l r (member t q (omega arith) r)
               ]
@@ -64,7 +78,7 @@ module _ (w kind m low : ℕ) (rows : List Row) where
     found above (suc t) e p =
         let best : bestOf w kind (max 1 m) low rows (lookedAt x seen) ≡ suc t = omega arith in
         let held = best-held w kind (max 1 m) low rows t (lookedAt x seen) best in
-        let near = held-place w (lookedAt x seen) t (held .2) in
+        let near = near-held t (held .2) in
         let is = greatest-is w kind m low rows t (held .0) (omega (arith, held .1)) (omega (arith, held .1)) (λ u q r s.
         elim (decLt u x) [
           | no n ↦ above u (omega arith) (omega (arith, held .0)) (omega arith)

@@ -5,6 +5,7 @@ use crate::scan::less;
 use crate::scan::scan;
 use evidence::rows::count_holders;
 use evidence::rows::set_place;
+use sets::mask::Mask;
 use sets::ticks::Ticks;
 ghost use mathlib.Core.Path.{_≡_};
 ghost use Prim.Native.Nat.{_+_, _*_, _≤_, max, min};
@@ -71,7 +72,7 @@ pub fn find_greatest(b: &[u8], i: usize, n: usize, kind: u32, w: u32, m: usize, 
         if seen.held != 0 {
             let s = Ticks {
                 top: (x - 1) as u32,
-                mask: seen.held,
+                mask: Mask::of(seen.held),
             };
             let best = better(b, i, n, kind, w, enough, s, low);
             if low < best {

@@ -1,4 +1,4 @@
-// How many rows are still missing until m hold a tick, for as many ticks as a mask has bits: a counter of six bits for each tick, with
+// How many rows are still missing until m hold a tick, for as many ticks as a word has bits: a counter of six bits for each tick, with
 // the bits of one rank together in one word. A tick whose counter has run over is held by m rows.
 ghost use Prim.Native.Nat.{_≤_, _<_};
 ghost use Rattle.search.specs.Levels.{capacity, Filled, Short, Raised};

@@ -1,19 +1,22 @@
-// One look at every row: which of the w ticks below x may be held by m rows, and where the next ticks below them begin.
+// One look at every row: which of the ticks just below x may be held by m rows, and where the next ticks below them begin. A look counts
+// as many ticks as a word has bits, also where the window is wider: a second look then sees the rest.
 use crate::levels::Levels;
 use evidence::rows::ROW;
 use evidence::rows::read_set;
 use fields::field::word;
+use sets::mask::Mask;
 use sets::ticks::Ticks;
-use sets::ticks::cut;
 ghost use mathlib.Core.Path.{_≡_};
 ghost use Prim.Native.Nat.{_-_, _≤_, max, min};
 ghost use Rattle.evidence.specs.Rows.{setAt, rowsAt};
-ghost use Rattle.sets.specs.Sets.{maskBytes, maskBits, heldBy};
+ghost use Rattle.sets.specs.Sets.{maskBytes, maskBits, tickCount, heldBy};
 ghost use Rattle.search.specs.Asked.{MayCount, MayScan};
-ghost use Rattle.search.specs.Scan.{Shown, Counted, Scanned, nextBelow, reaching, nextIf};
+ghost use Rattle.search.specs.Scan.{view, Shown, Counted, Scanned, nextBelow, reaching, nextIf};
 
-// Bits of a mask, beside numbers like x.
-const BITS: u64 = Ticks::BITS as u64;
+// Bits of a word and of a mask, beside numbers like x.
+const WORD: u64 = Mask::WORD as u64;
+
+const BITS: u64 = Mask::BITS as u64;
 
 pub struct Seen {
     // bit d for tick x - 1 - d: set where m rows hold that tick
@@ -22,19 +25,31 @@ pub struct Seen {
     pub next: u64,
 }
 
-// The mask of a set with bit d for tick x - 1 - d.
+// How many ticks one look counts, where the window is w wide.
+fn view(w: u32) -> u64
+    ensures { λ r. ⌜ r ≡ view w ⌝ }
+{
+    lesser(w as u64, WORD)
+}
+
+// The ticks of a set just below x: bit d for tick x - 1 - d.
 fn seen_from(s: Ticks, w: u32, x: u64) -> u64
     requires { ⌜ w ≤ maskBits ⌝ }
     ensures { λ r. ⌜ Shown w (heldBy s) x r ⌝ }
 {
-    let mask = cut(w, s.mask);
+    let whole = s.mask;
+    let mask = whole.cut(w);
     let y = s.top as u64 + 1;
     if y < x {
         let up = x - y;
-        if up < BITS { mask << up } else { 0 }
+        if up < WORD { mask.word_at(0) << up } else { 0 }
     } else {
         let down = y - x;
-        if down < BITS { mask >> down } else { 0 }
+        if down < BITS {
+            mask.word_at(down as u32)
+        } else {
+            0
+        }
     }
 }
 
@@ -44,7 +59,7 @@ fn count_row(levels: Levels, b: &[u8], p: usize, w: u32, x: u64) -> Levels
     ensures { λ r. ⌜ Counted w (setAt maskBytes (now (b .entry)) p) x levels r ⌝ }
 {
     let y = word(b, p) as u64 + 1;
-    if y + w as u64 <= x {
+    if y + view(w) <= x {
         return levels;
     }
     if x + w as u64 <= y {
@@ -72,21 +87,24 @@ pub(crate) fn less(a: u64, b: u64) -> u64
     if b < a { a - b } else { 0 }
 }
 
-// Where the next look begins, once a set with top y - 1 is seen: it may hold ticks just below the w ticks under x, or at its top.
+// Where the next look begins, once a set with top y - 1 is seen: it may hold ticks just below those looked at, or at its top.
 fn next_below(next: u64, y: u64, w: u32, x: u64) -> u64
+    requires { ⌜ (y ≤ tickCount) × (x ≤ tickCount) ⌝ }
     ensures { λ r. ⌜ r ≡ nextBelow w x next y ⌝ }
 {
-    if x <= y {
+    let looked = view(w);
+    if x + w as u64 <= y + looked {
         return next;
     }
-    greater(next, lesser(y, less(x, w as u64)))
+    greater(next, lesser(y, less(x, looked)))
 }
 
-// 1 where a set with top y - 1 may hold ticks below the w ticks under x.
-fn below(y: u64, x: u64) -> usize
-    ensures { λ r. ⌜ (r ≡ reaching x y) × (r ≤ 1) ⌝ }
+// 1 where a set with top y - 1 may hold ticks below those looked at.
+fn below(y: u64, w: u32, x: u64) -> usize
+    requires { ⌜ (y ≤ tickCount) × (x ≤ tickCount) ⌝ }
+    ensures { λ r. ⌜ (r ≡ reaching w x y) × (r ≤ 1) ⌝ }
 {
-    if y < x { 1 } else { 0 }
+    if y + view(w) < x + w as u64 { 1 } else { 0 }
 }
 
 // Where the next look begins: nowhere, if the rows that reach below this one are fewer than m.
@@ -120,7 +138,7 @@ pub(crate) fn scan(
         levels = count_row(levels, b, p, w, x);
         let y = word(b, p) as u64 + 1;
         next = next_below(next, y, w, x);
-        rest += below(y, x);
+        rest += below(y, w, x);
         at += ROW;
         left -= 1;
     }

@@ -5,3 +5,5 @@ pub mod Histories
 pub mod Masks
 pub mod Members
 pub mod Single
+pub mod Wider
+pub mod Words

@@ -67,6 +67,12 @@ shift-below m (suc d) zero p = ap (λ (x : ℕ). bit x 0) (twice m d) ∙ bit-lo
 shift-below m (suc d) (suc i) p =
     ap (λ (x : ℕ). bit x (suc i)) (twice m d) ∙ bit-high (m * 2 ^ d) 0 i (omega arith) ∙ shift-below m d i (omega arith)
 
+pub shift-down : (m k d : ℕ) → bit (m / 2 ^ k) d ≡ bit m (d + k)
+shift-down m zero d = ap₂ bit (omega arith) (sym (add-zero d))
+shift-down m (suc k) d =
+    ap (λ (x : ℕ). bit x d) (ap (λ (x : ℕ). m / x) (pow-succ' 2 k) ∙ sym (div-div-eq-div-mul m 2 (2 ^ k)))
+    ∙ shift-down (m / 2) k d ∙ sym (bit-suc m (d + k)) ∙ ap (bit m) (sym (add-suc d k))
+
 -- ---- cut to w bits
 
 halves : (w m : ℕ) → m % 2 ^ suc w ≡ (m / 2 % 2 ^ w) * 2 + m % 2
@@ -124,6 +130,11 @@ raised-even w m d p q = sym (bit-zero (m * 2 ^ d % 2 ^ w)) ∙ cut-at w (m * 2 ^
 pub raised-odd : (w m d : ℕ) → 0 < w → 0 < d → raised w m d % 2 ≡ 1
 unfolding raised
 raised-odd w m d p q = omega (arith, raised-even w m d p q)
+
+-- the new top is bit 0, which a mask that went up does not have
+pub raised-marked : (w m d : ℕ) → 0 < w → 0 < d → marked (m * 2 ^ d % 2 ^ w) 0 ≡ raised w m d
+unfolding raised
+raised-marked w m d p q = marked-zero (m * 2 ^ d % 2 ^ w) ∙ omega (arith, raised-even w m d p q)
 
 pub raised-suc : (w m d i : ℕ) → 0 < w → 0 < d → bit (raised w m d) (suc i) ≡ bit (m * 2 ^ d % 2 ^ w) (suc i)
 unfolding raised

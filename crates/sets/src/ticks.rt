@@ -1,33 +1,15 @@
 // A set of ticks by value: top and mask, bit i of the mask for tick top - i. Each function asks that the window is at most as wide
 // as a mask has bits, and at least 1 where it adds: a joint between layers, since only the node knows the window.
+use crate::mask::Mask;
 use fields::kind::ECHO;
 ghost use mathlib.Core.Path.{_≡_};
-ghost use Prim.Native.Nat.{_+_, _≤_, _<_, _%_, _^_, min};
+ghost use Prim.Native.Nat.{_+_, _≤_, _<_, min};
 ghost use Rattle.sets.specs.Ticks.{empty, holds, insert, add, proper};
 ghost use Rattle.sets.specs.Sets.{maskBits, heldBy};
 
 pub struct Ticks {
     pub top: u32,
-    pub mask: u64,
-}
-
-// The sizes of a set, as specs/Sets.antt has them.
-impl Ticks {
-    // bytes of a mask, and its bits
-    pub const BYTES: usize = 8;
-
-    pub const BITS: u32 = 8 * (Ticks::BYTES as u32);
-
-    // how many ticks a top can tell apart
-    pub const COUNT: u64 = 1 << 32;
-}
-
-// The low w bits of a mask.
-pub fn cut(w: u32, m: u64) -> u64
-    requires { ⌜ w ≤ maskBits ⌝ }
-    ensures { λ r. ⌜ r ≡ m % 2 ^ w ⌝ }
-{
-    if w < Ticks::BITS { m % (1u64 << w) } else { m }
+    pub mask: Mask,
 }
 
 // How many bits a mask may have: as many as the window is wide, and none for a tick below 0.
@@ -38,11 +20,17 @@ fn reach(w: u32, top: u32) -> u32
 }
 
 impl Ticks {
+    // How many ticks a top can tell apart.
+    pub const COUNT: u64 = 1 << 32;
+
     // The empty set.
     pub fn none() -> Ticks
         ensures { λ r. ⌜ heldBy r ≡ empty ⌝ }
     {
-        Ticks { top: 0, mask: 0 }
+        Ticks {
+            top: 0,
+            mask: Mask::of(0),
+        }
     }
 
     // 1 where tick t is held, else 0.
@@ -56,7 +44,8 @@ impl Ticks {
         }
         let d = top - t;
         if d < w {
-            ((self.mask >> d) % 2) as u32
+            let mask = self.mask;
+            mask.bit(d)
         } else {
             0
         }
@@ -72,19 +61,23 @@ impl Ticks {
         if top < t {
             let up = t - top;
             if up < w {
+                // the new top is bit 0, which no old tick has any more
                 Ticks {
                     top: t,
-                    mask: cut(w, mask << up) + 1,
+                    mask: mask.up(up).cut(w).marked(0),
                 }
             } else {
-                Ticks { top: t, mask: 1 }
+                Ticks {
+                    top: t,
+                    mask: Mask::of(1),
+                }
             }
         } else {
             let down = top - t;
             if down < w {
                 Ticks {
                     top,
-                    mask: mask + (1 - (mask >> down) % 2) * (1u64 << down),
+                    mask: mask.marked(down),
                 }
             } else {
                 Ticks { top, mask }
@@ -119,16 +112,12 @@ impl Ticks {
     {
         let top = self.top;
         let mask = self.mask;
-        if mask == 0 {
+        if mask.is_empty() {
             return top == 0;
         }
-        if mask % 2 != 1 {
+        if mask.bit(0) != 1 {
             return false;
         }
-        let bits = reach(w, top);
-        if bits < Ticks::BITS {
-            return mask < (1u64 << bits);
-        }
-        true
+        mask.is_below(reach(w, top))
     }
 }

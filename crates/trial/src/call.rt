@@ -1,7 +1,9 @@
-// The three calls, each with what came of it. The image buffer has 32 bytes behind the longest image and the output 8 behind what
-// a call asks, so that bytes behind what a call writes are seen to stay.
+// The calls of a node and of the converter, each with what came of it. The image buffer has more than a row behind the longest image and
+// the output 8 bytes behind what a call asks, so that bytes behind what a call writes are seen to stay.
 use crate::show;
 use crate::step::Step;
+use converter::calls::Conversion;
+use converter::calls::convert;
 use node::calls;
 use node::calls::Answer;
 use node::image::MOST_IMAGE;
@@ -10,7 +12,7 @@ ghost use Prim.Native.Nat.{_≤_};
 ghost use lib.ListN.{length};
 
 // Bytes of the image buffer.
-pub(crate) const IMAGE: usize = MOST_IMAGE + 32;
+pub(crate) const IMAGE: usize = MOST_IMAGE + 48;
 
 // Bytes of the output.
 pub(crate) const OUT: usize = Node::ROOM + 8;
@@ -46,6 +48,25 @@ pub(crate) fn run(step: Step, data: &[u8], image: &mut [u8; IMAGE]) -> bool {
     let mut out = [165u8; OUT];
     let answer = lend(step, data, image, &mut out);
     show::answer(step, answer, &old, image, &out);
+    true
+}
+
+// Lends only the first bytes of the image buffer, for conversions that have too little room.
+fn lend_to_convert(step: Step, old: &[u8], image: &mut [u8]) -> Conversion
+    requires { ⌜ step .size ≤ length (now image) ⌝ }
+{
+    let size = step.size;
+    convert(old, &mut image[0..size])
+}
+
+// Converts an old image, and prints what came of it.
+pub(crate) fn make_new(step: Step, data: &[u8], image: &mut [u8; IMAGE]) -> bool {
+    if step.size > IMAGE {
+        return false;
+    }
+    let before = *image;
+    let made = lend_to_convert(step, data, image);
+    show::conversion(step, made, &before, image);
     true
 }
 

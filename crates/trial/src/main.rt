@@ -1,4 +1,4 @@
-// Takes the steps on standard input: calls of boot, deliver and read, and what goes before them. tests/model/trial.py writes the
+// Takes the steps on standard input: calls of boot, deliver, read and convert, and what goes before them. tests/model/trial.py writes the
 // steps, and works out by its own model what they have to print.
 mod call;
 mod show;

@@ -2,6 +2,7 @@
 use crate::call::IMAGE;
 use crate::call::OUT;
 use crate::step::Step;
+use converter::calls::Conversion;
 use node::calls::Answer;
 use rules::record::RECORD;
 
@@ -78,6 +79,22 @@ fn same(step: Step, old: &[u8], image: &[u8], out: &[u8]) -> bool {
         && kept(&fresh, out, step.written, OUT)
 }
 
+// The end of a line: whether what it does not show stayed.
+fn end_with(stayed: bool) {
+    if stayed {
+        io::write_all(1, b" | same\n");
+    } else {
+        io::write_all(1, b" | changed\n");
+    }
+}
+
+// Number, bytes written, the bytes of the image that the step names, and whether the rest stayed.
+pub(crate) fn conversion(step: Step, made: Conversion, old: &[u8], image: &[u8]) {
+    pair(made.number, made.written);
+    part(image, 0, step.front);
+    end_with(kept(old, image, step.front, IMAGE));
+}
+
 // Number, records, rules fired, the bytes of the image that the step names, and whether the rest stayed.
 pub(crate) fn answer(step: Step, answer: Answer, old: &[u8], image: &[u8], out: &[u8]) {
     pair(answer.number, answer.records);
@@ -86,9 +103,5 @@ pub(crate) fn answer(step: Step, answer: Answer, old: &[u8], image: &[u8], out: 
     bytes(out, 0, RECORD * (answer.records as usize));
     part(image, 0, step.front);
     part(image, step.from, step.to);
-    if same(step, old, image, out) {
-        io::write_all(1, b" | same\n");
-    } else {
-        io::write_all(1, b" | changed\n");
-    }
+    end_with(same(step, old, image, out));
 }

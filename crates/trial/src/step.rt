@@ -1,4 +1,4 @@
-// A step: a head of 20 bytes, then its data, which is a text, an image, a form or a frame.
+// A step: a head of 20 bytes, then its data, which is a text, an image, a form, a frame or an old image.
 use crate::call;
 use crate::call::IMAGE;
 use crate::show;
@@ -44,7 +44,14 @@ fn hand_in(data: &[u8], image: &mut [u8]) -> bool {
     true
 }
 
-// Makes a step: a text written, an image handed in or shown, a read, a boot, a delivery; false where it is none of these.
+// Makes the image buffer as it was before the first step.
+fn clear(image: &mut [u8]) -> bool {
+    let fresh = [165u8; IMAGE];
+    hand_in(&fresh, image)
+}
+
+// Makes a step: a text written, an image handed in or shown, a read, a boot, a delivery, a conversion, the buffer cleared; false
+// where it is none of these.
 fn make(step: Step, data: &[u8], image: &mut [u8; IMAGE]) -> bool {
     let kind = step.kind;
     match kind {
@@ -53,6 +60,8 @@ fn make(step: Step, data: &[u8], image: &mut [u8; IMAGE]) -> bool {
         3 => show::image(image, step.front),
         4 => call::read(step, image),
         5 | 6 => call::run(step, data, image),
+        7 => call::make_new(step, data, image),
+        8 => clear(image),
         _ => false,
     }
 }

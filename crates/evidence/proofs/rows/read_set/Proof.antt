@@ -8,15 +8,15 @@ use Rattle.evidence.proofs.rows.read_set.Tie as tie
 word-requires : tie.Need-word-requires
 word-requires c κs = search needs
 
-add-long : tie.Need-add-long
-add-long c = search needs
+add-read : tie.Need-add-read
+add-read c = search needs
 
-long-requires : tie.Need-long-requires
-long-requires c κs = search needs
+read-requires : tie.Need-read-requires
+read-requires c κs = search needs
 
 returns : tie.Need-returns
 unfolding setAt
-returns c = λ d. record { top = c .before .word .ensures d; mask = c .long .ensures d }
+returns c = λ d. record { top = c .before .word .ensures d; mask = c .read .ensures d }
 
 pub read-set-spec : {M : Type 1} → statement M
-read-set-spec = tie.close (tie.spec word-requires add-long long-requires returns)
+read-set-spec = tie.close (tie.spec word-requires add-read read-requires returns)

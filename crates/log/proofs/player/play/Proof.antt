@@ -11,7 +11,7 @@ use denote.Ref.{now}
 use lib.ListN.{length}
 use Rattle.node.specs.Calls.{booted}
 use Rattle.rules.specs.Describe.{lastTick}
-use Rattle.node.specs.Image.{layout}
+use Rattle.node.specs.Layout.{layout}
 use Rattle.log.specs.Listing.{line, imageLent, outLent, callLines, listing, listingRoom, played}
 use Rattle.log.specs.Log.{LogTold, countOf, eventsAt, formOf, broken, logNumber, logTold, toldBy}
 use Rattle.forms.specs.Form.{doneWrite, refusedWrite}

@@ -10,7 +10,7 @@ use denote.Ref.{now}
 use lib.ListN.{take, drop}
 use Rattle.rules.specs.Describe.{lastTick}
 use Rattle.node.specs.Calls.{Outcome, booted}
-use Rattle.node.specs.Image.{layout}
+use Rattle.node.specs.Layout.{layout}
 use Rattle.log.specs.Listing.{imageLent, outLent, lineOf, eventLines, callLines}
 use Rattle.log.specs.Log.{formPlace, formOf}
 use Rattle.log.specs.Played.{CallShown, TakenLog}

@@ -12,7 +12,7 @@ use Rattle.forms.specs.Frame.{frameSize}
 use Rattle.rules.specs.Describe.{lastTick}
 use Rattle.node.specs.Answers.{outcomeBy}
 use Rattle.node.specs.Calls.{Outcome, deliverOutcome}
-use Rattle.node.specs.Image.{layout}
+use Rattle.node.specs.Layout.{layout}
 use Rattle.log.specs.Listing.{eventCall}
 use Rattle.log.specs.Log.{eventSize}
 use Rattle.log.proofs.Lines.{puts-call}

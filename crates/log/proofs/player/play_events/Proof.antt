@@ -10,7 +10,7 @@ use native.Mathlib.Omega.{arith}
 use lib.ListN.{length}
 use Rattle.rules.specs.Describe.{lastTick}
 use Rattle.node.specs.Calls.{Outcome}
-use Rattle.node.specs.Image.{layout}
+use Rattle.node.specs.Layout.{layout}
 use Rattle.log.specs.Listing.{lineRoom, lineOf, eventCall, eventLines}
 use Rattle.log.specs.Log.{eventSize}
 use Rattle.log.specs.Played.{CallShown}

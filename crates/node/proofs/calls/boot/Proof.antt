@@ -14,7 +14,8 @@ use Rattle.forms.specs.declared.form.Form.{Form}
 use Rattle.forms.proofs.Told.{refusal, told-refused, form-length}
 use Rattle.node.specs.Calls.{bootNumber, freshState, booted}
 use Rattle.rules.specs.Describe.{room, bootRecords}
-use Rattle.node.specs.Image.{layout, imageSize, putState}
+use Rattle.node.specs.Image.{putState}
+use Rattle.node.specs.Layout.{layout, imageSize}
 use Rattle.rules.specs.Record.{putRecords}
 use Rattle.node.proofs.Taken.{form-refuses, told-form, form-limits}
 use Rattle.node.proofs.calls.boot.Statement.{statement}

@@ -14,7 +14,8 @@ use Rattle.forms.specs.Frame.{frameAt, frameNumber}
 use Rattle.forms.proofs.Told.{refusal, first-given}
 use Rattle.node.specs.Calls.{Outcome, refused, numberBeforeFrame, deliverNumber, deliveryOf, imageAfter, deliverOutcome}
 use Rattle.rules.specs.Describe.{window, lastTick}
-use Rattle.node.specs.Image.{layout, headerSize, nodeOf, stateOf}
+use Rattle.node.specs.Image.{nodeOf, stateOf}
+use Rattle.node.specs.Layout.{layout, headerSize}
 use Rattle.rules.specs.Steps.{DeliveredAs}
 use Rattle.rules.proofs.Clock.{delivered-ordered}
 use Rattle.node.proofs.Outcomes.{deliver-refused}

@@ -10,7 +10,8 @@ use lib.Dec.{eqb, lit≤}
 use borrow.Author.Tests.{lt-ltb, le-ltb, eq-eqb, ne-eqb, not-true, not-false}
 use Rattle.node.specs.Calls.{numberBeforeFrame}
 use Rattle.rules.specs.Describe.{room, lastTick}
-use Rattle.node.specs.Image.{layout, soundImage}
+use Rattle.node.specs.Image.{soundImage}
+use Rattle.node.specs.Layout.{layout}
 use Rattle.node.proofs.Sound.{SoundBytes, sound-bytes, rows-inside}
 use Rattle.node.proofs.calls.number_before_frame.Statement.{statement}
 use Rattle.node.proofs.calls.number_before_frame.Tie as tie

@@ -10,7 +10,8 @@ use borrow.Author.Tests.{eq-eqb, ne-eqb, not-true, not-false}
 use Rattle.fields.specs.Field.{field}
 use Rattle.node.specs.Calls.{readNumber, reading}
 use Rattle.rules.specs.Describe.{lastTick}
-use Rattle.node.specs.Image.{layout, soundImage}
+use Rattle.node.specs.Image.{soundImage}
+use Rattle.node.specs.Layout.{layout}
 use Rattle.node.proofs.Sound.{SoundBytes, sound-bytes}
 use Rattle.node.proofs.calls.read.Statement.{statement}
 use Rattle.node.proofs.calls.read.Tie as tie

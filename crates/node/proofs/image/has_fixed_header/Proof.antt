@@ -2,8 +2,8 @@
 -- part decides.
 -- Assumes nothing.
 use borrow.Author.Needs.{needs}
-use mathlib.Core.Path.{_≡_}
-use mathlib.Core.Bool.{_&&_}
+use mathlib.Core.Path.{_≡_, sym, _∙_}
+use mathlib.Core.Bool.{false, _&&_}
 use mathlib.Core.List.{List}
 use Prim.Native.Nat.{ℕ}
 use native.Mathlib.Omega.{arith}
@@ -12,20 +12,32 @@ use lib.ListN.{getD}
 use lib.Dec.{eqb}
 use borrow.Author.Tests.{eq-eqb, ne-eqb}
 use Rattle.fields.specs.Field.{field}
-use Rattle.node.specs.Image.{layout, headerSize, imageSize, fixedHeader}
+use Rattle.node.specs.Image.{fixedHeader}
+use Rattle.node.specs.Layout.{headerSize, imageSize}
+use Rattle.node.specs.declared.layout.Layout.{Layout}
 use Rattle.node.proofs.image.has_fixed_header.Statement.{statement}
 use Rattle.node.proofs.image.has_fixed_header.Tie as tie
 
--- past byte 3, the offset and the size only the zeros are left
-zeros :
-    (b : List ℕ)
-    → getD b 3 0 ≡ 0
-    → field 2 b 16 ≡ headerSize
-    → field 2 b 18 ≡ imageSize layout (getD b 0 0)
-    → fixedHeader layout b ≡ (eqb (field 4 b 20) 0 && (eqb (field 4 b 24) 0 && eqb (field 4 b 28) 0))
-unfolding fixedHeader
-zeros b p q r =
-    rw (eq-eqb (getD b 3 0) 0 p, eq-eqb (field 2 b 16) headerSize q, eq-eqb (field 2 b 18) (imageSize layout (getD b 0 0)) r)
+module _ (L : Layout) (b : List ℕ) where
+  -- the mark, and behind it the offset
+  wrong-offset : getD b 3 0 ≡ L .mark → (field 2 b 16 ≡ headerSize → ⊥) → fixedHeader L b ≡ false
+  unfolding fixedHeader
+  wrong-offset p q = rw (eq-eqb (getD b 3 0) (L .mark) p, ne-eqb (field 2 b 16) headerSize q)
+
+  -- behind both the size
+  wrong-size :
+      getD b 3 0 ≡ L .mark → field 2 b 16 ≡ headerSize → (field 2 b 18 ≡ imageSize L (getD b 0 0) → ⊥) → fixedHeader L b ≡ false
+  unfolding fixedHeader
+  wrong-size p q r =
+      rw (eq-eqb (getD b 3 0) (L .mark) p, eq-eqb (field 2 b 16) headerSize q, ne-eqb (field 2 b 18) (imageSize L (getD b 0 0)) r)
+
+  -- past all three only the zeros are left
+  zeros :
+      getD b 3 0 ≡ L .mark → field 2 b 16 ≡ headerSize → field 2 b 18 ≡ imageSize L (getD b 0 0) →
+      fixedHeader L b ≡ (eqb (field 4 b 20) 0 && (eqb (field 4 b 24) 0 && eqb (field 4 b 28) 0))
+  unfolding fixedHeader
+  zeros p q r =
+      rw (eq-eqb (getD b 3 0) (L .mark) p, eq-eqb (field 2 b 16) headerSize q, eq-eqb (field 2 b 18) (imageSize L (getD b 0 0)) r)
 
 shared-slice-read-size : tie.Need-shared-slice-read-size
 shared-slice-read-size c = search needs
@@ -33,11 +45,8 @@ shared-slice-read-size c = search needs
 cast-size : tie.Need-cast-size
 cast-size c = omega (arith, c .shared-slice-known2 .given 0)
 
-mul-size : tie.Need-mul-size
-mul-size c = omega (arith, c .shared-slice-known2 .given 0)
-
-add-size : tie.Need-add-size
-add-size c = omega (arith, c .shared-slice-known2 .given 0)
+size-requires : tie.Need-size-requires
+size-requires c κs = omega (arith, c .shared-slice-known2 .given 0)
 
 shared-slice-read-if1 : tie.Need-shared-slice-read-if1
 shared-slice-read-if1 c = search needs
@@ -45,57 +54,74 @@ shared-slice-read-if1 c = search needs
 returns : tie.Need-returns
 unfolding fixedHeader
 returns c =
-    let b = now (c .before .before .before .before .args .b) in
-    rw (ne-eqb (getD b 3 0) 0 (omega arith))
+    let a = c .before .before .before .before .before .before .args in
+    rw (ne-eqb (getD (now (a .b)) 3 0) (a .layout .mark) (c .if1 .taken))
 
 half-requires : tie.Need-half-requires
 half-requires c κs = search needs
 
 returns-2 : tie.Need-returns-2
-unfolding fixedHeader
 returns-2 c =
-    let b = now (c .before .before .before .before .before .before .args .b) in
-    rw (eq-eqb (getD b 3 0) 0 (omega arith), ne-eqb (field 2 b 16) headerSize (omega arith))
+    let a = c .before .before .before .before .before .before .before .before .args in
+    sym (wrong-offset (a .layout) (now (a .b)) (c .before .before .if1 .left) (λ e. c .if2 .taken (c .before .half .ensures ∙ e)))
 
 half-requires-2 : tie.Need-half-requires-2
 half-requires-2 c κs = search needs
 
+-- past the third test the three facts hold
+stated :
+    (c : tie.Else3) →
+    let a = c .before .before .before .before .before .before .before .before .before .before .args in
+    fixedHeader (a .layout) (now (a .b))
+    ≡ (eqb (field 4 (now (a .b)) 20) 0 && (eqb (field 4 (now (a .b)) 24) 0 && eqb (field 4 (now (a .b)) 28) 0))
+stated c =
+    let a = c .before .before .before .before .before .before .before .before .before .before .args in
+    let size = c .before .before .before .before .before .before .before .size .ensures in
+    zeros (a .layout) (now (a .b)) (c .before .before .before .before .if1 .left)
+    (sym (c .before .before .before .half .ensures) ∙ c .before .before .if2 .left)
+    (sym (c .before .half2 .ensures) ∙ c .if3 .left ∙ size)
+
 returns-3 : tie.Need-returns-3
-unfolding fixedHeader
 returns-3 c =
-    let b = now (c .before .before .before .before .before .before .before .before .args .b) in
-    rw (
-      eq-eqb (getD b 3 0) 0 (omega arith),
-      eq-eqb (field 2 b 16) headerSize (omega arith),
-      ne-eqb (field 2 b 18) (imageSize layout (getD b 0 0)) (omega arith),
-    )
+    let a = c .before .before .before .before .before .before .before .before .before .before .args in
+    let size = c .before .before .before .before .before .before .before .size .ensures in
+    sym
+    (wrong-size (a .layout) (now (a .b)) (c .before .before .before .before .if1 .left)
+    (sym (c .before .before .before .half .ensures) ∙ c .before .before .if2 .left)
+    (λ e. c .if3 .taken (c .before .half2 .ensures ∙ e ∙ sym size)))
 
 word-requires : tie.Need-word-requires
 word-requires c κs = search needs
 
 returns-4 : tie.Need-returns-4
 returns-4 c =
-    let b = now (c .before .before .before .before .before .before .before .before .before .before .args .b) in
-    rw (zeros b (omega arith) (omega arith) (omega arith), ne-eqb (field 4 b 20) 0 (omega arith))
+    let b = now (c .before .before .before .before .before .before .before .before .before .before .before .before .args .b) in
+    rw (stated (c .before .before), ne-eqb (field 4 b 20) 0 (λ e. c .if4 .taken (c .before .word .ensures ∙ e)))
 
 word-requires-2 : tie.Need-word-requires-2
 word-requires-2 c κs = search needs
 
 returns-5 : tie.Need-returns-5
 returns-5 c =
-    let b = now (c .before .before .before .before .before .before .before .before .before .before .before .before .args .b) in
-    rw (zeros b (omega arith) (omega arith) (omega arith), eq-eqb (field 4 b 20) 0 (omega arith), ne-eqb (field 4 b 24) 0 (omega arith))
+    let third = c .before .before .before .before in
+    let b = now (third .before .before .before .before .before .before .before .before .before .before .args .b) in
+    rw (
+      stated third,
+      eq-eqb (field 4 b 20) 0 (sym (c .before .before .before .word .ensures) ∙ c .before .before .if4 .left),
+      ne-eqb (field 4 b 24) 0 (λ e. c .if5 .taken (c .before .word2 .ensures ∙ e)),
+    )
 
 word-requires-3 : tie.Need-word-requires-3
 word-requires-3 c κs = search needs
 
 returns-6 : tie.Need-returns-6
 returns-6 c =
-    let b = now (c .before .before .before .before .before .before .before .before .before .before .before .before .before .args .b) in
+    let third = c .before .before .before .before .before in
+    let b = now (third .before .before .before .before .before .before .before .before .before .before .args .b) in
     rw (
-      zeros b (omega arith) (omega arith) (omega arith),
-      eq-eqb (field 4 b 20) 0 (omega arith),
-      eq-eqb (field 4 b 24) 0 (omega arith),
+      stated third,
+      eq-eqb (field 4 b 20) 0 (sym (c .before .before .before .before .word .ensures) ∙ c .before .before .before .if4 .left),
+      eq-eqb (field 4 b 24) 0 (sym (c .before .before .word2 .ensures) ∙ c .before .if5 .left),
       c .word3 .ensures,
     )
 
@@ -105,8 +131,7 @@ has-fixed-header-spec =
     (tie.spec
     shared-slice-read-size
     cast-size
-    mul-size
-    add-size
+    size-requires
     shared-slice-read-if1
     returns
     half-requires

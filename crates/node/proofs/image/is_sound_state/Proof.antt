@@ -18,7 +18,8 @@ use Rattle.evidence.specs.Rows.{Row, rowsAt, properRows}
 use Rattle.evidence.specs.Serials.{serialsIn}
 use Rattle.evidence.proofs.Layouts.{serials-of-rows}
 use Rattle.rules.specs.Describe.{window, lastTick}
-use Rattle.node.specs.Image.{layout, headerSize, stateWith, soundState}
+use Rattle.node.specs.Image.{stateWith, soundState}
+use Rattle.node.specs.Layout.{layout, headerSize}
 use Rattle.rules.specs.Rules.{firstRule, atRest}
 use Rattle.rules.specs.declared.node.Node.{Node}
 use Rattle.node.proofs.Sound.{rows-limits}

@@ -2,9 +2,9 @@
 -- Assumes nothing.
 use borrow.Author.Needs.{needs}
 use mathlib.Core.Path.{_≡_}
+use Prim.Native.Nat.{_<_}
 use native.Mathlib.Omega.{arith}
 use denote.Ref.{now}
-use lib.Dec.{lit<}
 use lib.ListN.{length, length-set}
 use Rattle.node.specs.Image.{putFixed}
 use Rattle.fields.proofs.Fields.{put-byte}
@@ -22,28 +22,25 @@ half-length : (c : tie.After-put-half) → length (c .put-half .last .0) ≡ len
 half-length c = simp length-set at (c .put-half .kept .0)
 
 half2-length : (c : tie.After-put-half2) →
-    let half = c .before .before .before .before in
+    let half = c .before .before .before .before .before in
     length (c .put-half2 .last .0) ≡ length (now (half .before .before .before .args .b))
-half2-length c = omega (arith, c .put-half2 .kept .0, half-length (c .before .before .before .before))
+half2-length c = omega (arith, c .put-half2 .kept .0, half-length (c .before .before .before .before .before))
 
 word-length : (c : tie.After-put-word) →
-    let half = c .before .before .before .before .before .before .before .before in
+    let half = c .before .before .before .before .before .before .before .before .before in
     length (c .put-word .last .0) ≡ length (now (half .before .before .before .args .b))
 word-length c = omega (arith, c .put-word .kept .0, half2-length (c .before .before .before .before))
 
 word2-length : (c : tie.After-put-word2) →
-    let half = c .before .before .before .before .before .before .before .before .before .before .before .before in
+    let half = c .before .before .before .before .before .before .before .before .before .before .before .before .before in
     length (c .put-word2 .last .0) ≡ length (now (half .before .before .before .args .b))
 word2-length c = omega (arith, c .put-word2 .kept .0, word-length (c .before .before .before .before))
 
-mul-put-half : tie.Need-mul-put-half
-mul-put-half c = search needs
-
-add-put-half : tie.Need-add-put-half
-add-put-half c = search needs
+size-requires : tie.Need-size-requires
+size-requires c κs = search needs
 
 put-half-requires-2 : tie.Need-put-half-requires-2
-put-half-requires-2 c κs = omega (arith, half-length (c .before .before .before))
+put-half-requires-2 c κs = omega (arith, half-length (c .before .before .before .before))
 
 put-word-requires : tie.Need-put-word-requires
 put-word-requires c κs = omega (arith, half2-length (c .before .before .before))
@@ -57,6 +54,9 @@ put-word-requires-3 c κs = omega (arith, word2-length (c .before .before .befor
 same-length : tie.Need-same-length
 same-length c = omega (arith, c .before .before .put-word3 .kept .0, word2-length (c .before .before .before .before .before .before))
 
+mark-fits : (c : tie.After-put-half) → c .before .before .before .args .layout .mark < 256
+mark-fits c = search needs
+
 returns : tie.Need-returns
 unfolding putFixed
 returns c =
@@ -64,13 +64,15 @@ returns c =
     let word2 = word3 .before .before .before .before in
     let word = word2 .before .before .before .before in
     let half2 = word .before .before .before .before in
-    let half = half2 .before .before .before .before in
+    let half = half2 .before .before .before .before .before in
+    let a = half .before .before .before .args in
     rw (
-      put-byte (now (half .before .before .before .args .b)) 3 0 (lit< tt),
+      put-byte (now (a .b)) 3 (a .layout .mark) (mark-fits half),
       word3 .put-word3 .ensures,
       word2 .put-word2 .ensures,
       word .put-word .ensures,
       half2 .put-half2 .ensures,
+      half2 .before .size .ensures,
       half .put-half .ensures,
     )
 
@@ -80,8 +82,7 @@ put-fixed-spec =
     (tie.spec
     slice-write-b
     put-half-requires
-    mul-put-half
-    add-put-half
+    size-requires
     put-half-requires-2
     put-word-requires
     put-word-requires-2

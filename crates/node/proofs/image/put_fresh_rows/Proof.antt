@@ -7,14 +7,14 @@ use native.Mathlib.Nat.{sub-zero}
 use native.Mathlib.Omega.{arith}
 use denote.Ref.{now}
 use lib.ListN.{length}
-use Rattle.fields.specs.Field.{field, putField, words}
+use Rattle.fields.specs.Field.{field, words}
 use Rattle.fields.proofs.Words.{words-step, words-end}
 use Rattle.forms.specs.Form.{serialsPlace}
 use Rattle.sets.specs.Sets.{maskBytes}
 use Rattle.sets.specs.Ticks.{empty}
-use Rattle.evidence.specs.Rows.{rowBytes, echoPlace, initPlace, putSet, putRow, putRows}
+use Rattle.evidence.specs.Rows.{rowBytes, rowWith, putRow, putRows}
 use Rattle.rules.specs.Describe.{freshRows}
-use Rattle.node.specs.Image.{headerSize}
+use Rattle.node.specs.Layout.{headerSize}
 use Rattle.node.proofs.image.put_fresh_rows.Statement.{statement}
 use Rattle.node.proofs.image.put_fresh_rows.Tie as tie
 
@@ -25,14 +25,11 @@ rest b form n k =
 
 -- the row on line k stored: its serial, and two empty sets
 abbrev stored : List ℕ → List ℕ → ℕ → List ℕ
-stored b form k =
-    let at = headerSize + k * rowBytes in
-    let named = putField 4 b at (field 4 form (serialsPlace + k * 4)) in
-    putSet maskBytes (putSet maskBytes named (at + echoPlace) empty) (at + initPlace maskBytes) empty
+stored b form k = putRow maskBytes b (headerSize + k * rowBytes) (rowWith (field 4 form (serialsPlace + k * 4)) empty empty)
 
 -- one turn: with the row on line k stored, the lines behind it are what is left to store
 store-step : (b form : List ℕ) (n k : ℕ) → k < n → rest (stored b form k) form n (k + 1) ≡ rest b form n k
-unfolding putRow putRows freshRows
+unfolding putRows freshRows
 store-step b form n k p =
     let at : headerSize + (k + 1) * rowBytes ≡ headerSize + k * rowBytes + rowBytes = omega arith in
     let left : n - (k + 1) ≡ n - k - 1 = omega arith in
@@ -55,12 +52,6 @@ abbrev μ-loop : tie.MeasureT-loop
 loop-holds : tie.Need-loop-holds Inv-loop μ-loop
 loop-holds c = (omega arith, omega arith, simp sub-zero)
 
-mul-at : tie.Need-mul-at Inv-loop μ-loop
-mul-at c = omega arith
-
-add-at : tie.Need-add-at Inv-loop μ-loop
-add-at c = omega arith
-
 mul-word : tie.Need-mul-word Inv-loop μ-loop
 mul-word c = omega arith
 
@@ -70,26 +61,20 @@ add-word c = omega arith
 word-requires : tie.Need-word-requires Inv-loop μ-loop
 word-requires c κs = omega arith
 
-put-word-requires : tie.Need-put-word-requires Inv-loop μ-loop
-put-word-requires c κs = omega arith
+mul-put-row : tie.Need-mul-put-row Inv-loop μ-loop
+mul-put-row c = omega arith
 
-add-store-set : tie.Need-add-store-set Inv-loop μ-loop
-add-store-set c = omega arith
+add-put-row : tie.Need-add-put-row Inv-loop μ-loop
+add-put-row c = omega arith
 
 none-requires : tie.Need-none-requires Inv-loop μ-loop
 none-requires c κs = omega arith
 
-store-set-requires : tie.Need-store-set-requires Inv-loop μ-loop
-store-set-requires c κs = omega arith
-
-add-store-set-2 : tie.Need-add-store-set-2 Inv-loop μ-loop
-add-store-set-2 c = omega arith
-
 none-requires-2 : tie.Need-none-requires-2 Inv-loop μ-loop
 none-requires-2 c κs = omega arith
 
-store-set-requires-2 : tie.Need-store-set-requires-2 Inv-loop μ-loop
-store-set-requires-2 c κs = omega arith
+put-row-requires : tie.Need-put-row-requires Inv-loop μ-loop
+put-row-requires c κs = omega arith
 
 add-k : tie.Need-add-k Inv-loop μ-loop
 add-k c = omega arith
@@ -99,21 +84,17 @@ loop-less c = omega arith
 
 loop-again : tie.Need-loop-again Inv-loop μ-loop
 loop-again c =
-    let init = c .before .before in
-    let echo = init .before .before .before .before .before in
-    let serial = echo .before .before .before .before .before in
-    let turn = serial .before .before .before in
+    let row = c .before .before in
+    let turn = row .before .before .before .before .before in
     let l = turn .before .loop in
     let a = turn .before .before .before .before .args in (
       omega arith,
       omega arith,
       rw (
-        init .store-set2 .ensures,
-        init .before .none2 .ensures,
-        echo .store-set .ensures,
-        echo .before .none .ensures,
-        serial .put-word .ensures,
-        serial .before .word .ensures,
+        row .put-row .ensures,
+        row .before .none2 .ensures,
+        row .before .before .none .ensures,
+        row .before .before .before .before .word .ensures,
       )
           (store-step (l .b) (now (a .form)) (a .n) (l .k) (turn .loop-test .taken) ∙ l .inv .2),
     )
@@ -134,18 +115,14 @@ put-fresh-rows-spec =
     Inv-loop
     μ-loop
     loop-holds
-    mul-at
-    add-at
     mul-word
     add-word
     word-requires
-    put-word-requires
-    add-store-set
+    mul-put-row
+    add-put-row
     none-requires
-    store-set-requires
-    add-store-set-2
     none-requires-2
-    store-set-requires-2
+    put-row-requires
     add-k
     loop-less
     loop-again

@@ -5,10 +5,14 @@ use mathlib.Core.Path.{_≡_}
 use native.Mathlib.Omega.{arith}
 use denote.Ref.{now}
 use lib.ListN.{length, set, length-set}
-use Rattle.node.specs.Image.{layout, putFixed, putNode}
+use Rattle.node.specs.Image.{putFixed, putNode}
+use Rattle.node.specs.Layout.{layout}
 use Rattle.fields.proofs.Fields.{put-byte}
 use Rattle.node.proofs.image.put_node.Statement.{statement}
 use Rattle.node.proofs.image.put_node.Tie as tie
+
+in-service-requires : tie.Need-in-service-requires
+in-service-requires c κs = search needs
 
 put-fixed-requires : tie.Need-put-fixed-requires
 put-fixed-requires c κs = search needs
@@ -31,7 +35,7 @@ put-word-requires c κs = simp length-set (omega arith)
 -- no store changes the length
 word-length : (c : tie.After-put-word) →
     let put = c .before .before .before .before .before .before in
-    length (c .put-word .last .0) ≡ length (now (put .before .before .before .args .b))
+    length (c .put-word .last .0) ≡ length (now (put .before .before .before .before .args .b))
 word-length c =
     let put = c .before .before .before .before .before .before in
     omega (arith, simp length-set at (c .put-word .kept .0), put .put-fixed .kept .0)
@@ -48,7 +52,7 @@ returns c =
     let clock = c .before .before in
     let word = clock .before .before .before .before in
     let put = word .before .before .before .before .before .before in
-    let a = put .before .before .before .args in
+    let a = put .before .before .before .before .args in
     let fixed = putFixed layout (now (a .b)) (a .node .lines) in
     rw (
       put-byte fixed 0 (a .node .lines) (omega arith),
@@ -56,12 +60,14 @@ returns c =
       clock .put-clock .ensures,
       word .put-word .ensures,
       put .put-fixed .ensures,
+      put .before .in-service .ensures,
     )
 
 pub put-node-spec : {M : Type 1} → statement M
 put-node-spec =
     tie.close
     (tie.spec
+    in-service-requires
     put-fixed-requires
     cast-b
     slice-write-b

@@ -6,7 +6,7 @@ use mathlib.Core.Path.{_≡_, sym, ap, _∙_}
 use denote.Ref.{now}
 use Rattle.rules.specs.Describe.{lastTick}
 use Rattle.node.specs.Calls.{Reading, reading}
-use Rattle.node.specs.Image.{layout}
+use Rattle.node.specs.Layout.{layout}
 use Rattle.packs.specs.Sheet.{countOf, sheetNumber, toldBy}
 use Rattle.packs.proofs.Told.{told-refused, told-taken, sheet-lines, pack-unread, read-passive, refused-pack, pack-told}
 use Rattle.packs.specs.declared.answer.Refusal.the-variants.{Image, Passive}

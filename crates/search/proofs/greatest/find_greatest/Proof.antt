@@ -2,11 +2,12 @@
 -- Assumes nothing.
 use borrow.Author.Needs.{needs}
 use mathlib.Core.Path.{_≡_, sym, subst}
-use Prim.Native.Nat.{ℕ, _≤_, max}
+use Prim.Native.Nat.{ℕ, _-_, _^_, _≤_, _<_, max}
 use native.Mathlib.Omega.{arith}
 use denote.Ref.{now}
 use Rattle.fields.specs.Field.{Bytes}
-use Rattle.sets.specs.Sets.{maskBytes, tickCount}
+use Rattle.sets.specs.Sets.{wordBits, maskBytes, tickCount}
+use Rattle.sets.specs.Ticks.{Held}
 use Rattle.evidence.specs.Holders.{bestOf}
 use Rattle.evidence.specs.Rows.{rowsAt}
 use Rattle.evidence.proofs.Columns.{holders-far}
@@ -46,6 +47,9 @@ sub-t16 c = omega arith
 cast-t17 : tie.Need-cast-t17 Inv-loop μ-loop
 cast-t17 c = omega arith
 
+of-requires : tie.Need-of-requires Inv-loop μ-loop
+of-requires c κs = search needs
+
 better-requires : tie.Need-better-requires Inv-loop μ-loop
 better-requires c κs = omega arith
 
@@ -55,31 +59,37 @@ few :
     c .before .before .before .countable .result ≤ max 1 (c .before .before .before .before .before .before .before .args .m)
 few c = omega (arith, c .before .before .before .countable .ensures, c .before .before .before .before .at-least-one .ensures)
 
+-- what a look shows is a word
+word : (c : tie.After-scan Inv-loop μ-loop) → c .scan .result .held < 2 ^ wordBits
+word c = search needs
+
 -- what is found among the ticks looked at
 best :
     (c : tie.After-better Inv-loop μ-loop) →
-    let a = c .before .before .before .before .before .before .before .before .before .before .args in
+    let a = c .before .before .before .before .before .before .before .before .before .before .before .args in
     let rows = rowsAt maskBytes (a .n) (now (a .b)) (a .i) in
-    let x = c .before .before .before .before .before .loop .x in
-    let looked = lookedAt (a .w) (a .kind) (a .m) (a .low) rows x (c .before .before .before .scan .result) in
+    let x = c .before .before .before .before .before .before .loop .x in
+    let looked = lookedAt (a .w) (a .kind) (a .m) (a .low) rows x (c .before .before .before .before .scan .result) in
     c .better .result ≡ max (a .low) (bestOf (a .w) (a .kind) (max 1 (a .m)) (a .low) rows looked)
 best c =
-    let a = c .before .before .before .before .before .before .before .before .before .before .args in
+    let a = c .before .before .before .before .before .before .before .before .before .before .before .args in
     let rows = rowsAt maskBytes (a .n) (now (a .b)) (a .i) in
-    let x = c .before .before .before .before .before .loop .x in
-    let looked = lookedAt (a .w) (a .kind) (a .m) (a .low) rows x (c .before .before .before .scan .result) in
-    subst (λ (m : ℕ). c .better .result ≡ max (a .low) (bestOf (a .w) (a .kind) m (a .low) rows looked))
-    (c .before .before .before .before .before .before .before .at-least-one .ensures) (c .better .ensures)
+    let x = c .before .before .before .before .before .before .loop .x in
+    let enough = c .before .before .before .before .before .before .before .before .at-least-one in
+    let looked : ℕ → Held = λ mask. record { top = x - 1; mask = mask } in
+    let found : ℕ → Held → Type 0 = λ m s. c .better .result ≡ max (a .low) (bestOf (a .w) (a .kind) m (a .low) rows s) in
+    subst (λ (m : ℕ). found m (looked (c .before .before .before .before .scan .result .held))) (enough .ensures)
+    (subst (λ (mask : ℕ). found (enough .result) (looked mask)) (c .before .of .ensures) (c .better .ensures))
 
 returns : tie.Need-returns Inv-loop μ-loop
 returns c =
-    let a = c .before .before .before .before .before .before .before .before .before .before .before .args in
+    let a = c .before .before .before .before .before .before .before .before .before .before .before .before .args in
     let rows = rowsAt maskBytes (a .n) (now (a .b)) (a .i) in
-    let l = c .before .before .before .before .before .before .loop in
-    let scanned = c .before .before .before .before in
+    let l = c .before .before .before .before .before .before .before .loop in
+    let scanned = c .before .before .before .before .before in
     let is =
-    found (a .w) (a .kind) (a .m) (a .low) rows (few scanned) (scanned .scan .ensures) (l .inv .0) (c .before .better .result)
-    (best (c .before)) (c .if2 .taken) in
+    found (a .w) (a .kind) (a .m) (a .low) rows (word scanned) (few scanned) (scanned .scan .ensures) (l .inv .0)
+    (c .before .better .result) (best (c .before)) (c .if2 .taken) in
     (is .0, omega (arith, is .1, l .inv .1))
 
 loop-less : tie.Need-loop-less Inv-loop μ-loop
@@ -87,12 +97,13 @@ loop-less c = omega arith
 
 loop-again : tie.Need-loop-again Inv-loop μ-loop
 loop-again c =
-    let a = c .before .before .before .before .before .before .before .before .before .before .before .args in
+    let a = c .before .before .before .before .before .before .before .before .before .before .before .before .args in
     let rows = rowsAt maskBytes (a .n) (now (a .b)) (a .i) in
-    let scanned = c .before .before .before .before in
+    let scanned = c .before .before .before .before .before in
     let look = scanned .scan .ensures in
-    let inv = c .before .before .before .before .before .before .loop .inv in
-    let none = none-better (a .w) (a .kind) (a .m) (a .low) rows (few scanned) look (inv .0) (best (c .before)) (c .if2 .left) in
+    let inv = c .before .before .before .before .before .before .before .loop .inv in
+    let none =
+    none-better (a .w) (a .kind) (a .m) (a .low) rows (word scanned) (few scanned) look (inv .0) (best (c .before)) (c .if2 .left) in
     (none, omega (arith, look .less, inv .1))
 
 loop-less-2 : tie.Need-loop-less-2 Inv-loop μ-loop
@@ -104,7 +115,7 @@ loop-again-2 c =
     let rows = rowsAt maskBytes (a .n) (now (a .b)) (a .i) in
     let look = c .before .before .scan .ensures in
     let inv = c .before .before .before .before .loop .inv in (
-      none-seen (a .w) (a .kind) (a .m) (a .low) rows (few (c .before .before)) look (inv .0) (omega arith),
+      none-seen (a .w) (a .kind) (a .m) (a .low) rows (word (c .before .before)) (few (c .before .before)) look (inv .0) (omega arith),
       omega (arith, look .less, inv .1),
     )
 
@@ -128,6 +139,7 @@ find-greatest-spec =
     scan-requires
     sub-t16
     cast-t17
+    of-requires
     better-requires
     returns
     loop-less

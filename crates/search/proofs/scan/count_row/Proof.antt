@@ -25,6 +25,9 @@ cast-y c = search needs
 add-y : tie.Need-add-y
 add-y c = search needs
 
+view-requires : tie.Need-view-requires
+view-requires c κs = search needs
+
 add-if1 : tie.Need-add-if1
 add-if1 c = search needs
 
@@ -35,9 +38,10 @@ idle l d e = record { stays = λ f. f; counts = inr (omega arith) }
 returns : tie.Need-returns
 unfolding setAt
 returns c t p q =
-    let a = c .before .before .before .args in
+    let a = c .before .before .before .before .args in
     idle (a .levels) (a .x - 1 - t)
-    (holds-above (a .w) (setAt maskBytes (now (a .b)) (a .p)) t (omega (arith, c .if1 .taken, c .before .word .ensures)))
+    (holds-above (a .w) (setAt maskBytes (now (a .b)) (a .p)) t
+    (omega (arith, c .if1 .taken, c .before .view .ensures, c .before .before .word .ensures)))
 
 add-if2 : tie.Need-add-if2
 add-if2 c = search needs
@@ -45,9 +49,9 @@ add-if2 c = search needs
 returns-2 : tie.Need-returns-2
 unfolding setAt
 returns-2 c t p q =
-    let a = c .before .before .before .before .args in
+    let a = c .before .before .before .before .before .args in
     idle (a .levels) (a .x - 1 - t)
-    (holds-below (a .w) (setAt maskBytes (now (a .b)) (a .p)) t (omega (arith, c .if2 .taken, c .before .before .word .ensures)))
+    (holds-below (a .w) (setAt maskBytes (now (a .b)) (a .p)) t (omega (arith, c .if2 .taken, c .before .before .before .word .ensures)))
 
 read-set-requires : tie.Need-read-set-requires
 read-set-requires c κs = search needs
@@ -60,7 +64,7 @@ raised-requires c κs = search needs
 
 returns-3 : tie.Need-returns-3
 returns-3 c t p q =
-    let a = c .before .before .before .before .before .before .before .args in
+    let a = c .before .before .before .before .before .before .before .before .args in
     let here = c .before .seen-from .ensures t p q ∙ ap (λ (s : Held). holds (a .w) s t) (c .before .before .read-set .ensures) in
     subst (Counts (a .levels) (c .raised .result) (a .x - 1 - t)) here (c .raised .ensures (a .x - 1 - t))
 
@@ -71,6 +75,7 @@ count-row-spec =
     word-requires
     cast-y
     add-y
+    view-requires
     add-if1
     returns
     add-if2

@@ -31,7 +31,7 @@ short-of-requires c κs = search needs
 loop-holds : tie.Need-loop-holds Inv-loop μ-loop
 loop-holds c =
     let pre = c .before .before .pre in
-    (scan-first (pre .narrow) (pre .above) (c .short-of .ensures), pre .inside, omega arith)
+    (scan-first (pre .above) (c .short-of .ensures), pre .inside, omega arith)
 
 add-p : tie.Need-add-p Inv-loop μ-loop
 add-p c = omega arith
@@ -83,11 +83,11 @@ loop-again c =
     let top = c .before .before .word .ensures in
     let counted = c .before .before .before .count-row in
     let next = c .before .next-below .ensures ∙ ap (λ (top : ℕ). nextBelow (a .w) (a .x) (l .next) (top + 1)) top in
-    let under = ap (λ (k : ℕ). l .rest + k) (c .below .ensures .0 ∙ ap (λ (top : ℕ). reaching (a .x) (top + 1)) top) in
+    let under = ap (λ (k : ℕ). l .rest + k) (c .below .ensures .0 ∙ ap (λ (top : ℕ). reaching (a .w) (a .x) (top + 1)) top) in
     let row = scan-row here (l .inv .0) down (counted .ensures) in
     let known : ℕ → ℕ → Type 0 = Scanning (a .w) (a .kind) (a .m) (a .x) (rowsAt maskBytes (a .n) b (a .i)) rows (counted .result) in (
       subst (known (c .before .next-below .result)) (sym under)
-          (subst (λ (q : ℕ). known q (l .rest + reaching (a .x) (here .top + 1))) (sym next) row),
+          (subst (λ (q : ℕ). known q (l .rest + reaching (a .w) (a .x) (here .top + 1))) (sym next) row),
       omega arith,
       omega arith,
     )

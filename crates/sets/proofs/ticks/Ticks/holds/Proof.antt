@@ -1,10 +1,9 @@
 -- `Ticks::holds` meets its contract: above the top, in the window, or below it.
 -- Assumes nothing.
 use borrow.Author.Needs.{needs}
-use mathlib.Core.Path.{sym}
+use mathlib.Core.Path.{sym, _∙_}
 use Prim.Native.Nat.{_-_}
 use native.Mathlib.Omega.{arith}
-use Rattle.sets.specs.Ticks.{bit}
 use Rattle.sets.specs.Sets.{heldBy}
 use Rattle.sets.proofs.Members.{holds-at, holds-above, holds-below}
 use Rattle.sets.proofs.ticks.Ticks.holds.Statement.{statement}
@@ -15,20 +14,15 @@ returns c =
     let a = c .before .args in
     (sym (holds-above (a .w) (heldBy (a .self)) (a .t) (c .if1 .taken)), omega arith)
 
-cast-result : tie.Need-cast-result
-cast-result c = search needs
-
-shr-result : tie.Need-shr-result
-shr-result c = search needs
-
-cast-result-2 : tie.Need-cast-result-2
-cast-result-2 c = search needs
+bit-requires : tie.Need-bit-requires
+bit-requires c κs = search needs
 
 returns-2 : tie.Need-returns-2
-unfolding bit
 returns-2 c =
-    let a = c .before .before .before .args in
-    (sym (holds-at (a .w) (heldBy (a .self)) (a .t) (a .self .top - a .t) (omega arith) (omega arith)), omega arith)
+    let a = c .before .before .before .before .args in (
+      c .bit .ensures .0 ∙ sym (holds-at (a .w) (heldBy (a .self)) (a .t) (a .self .top - a .t) (omega arith) (omega arith)),
+      c .bit .ensures .1,
+    )
 
 returns-3 : tie.Need-returns-3
 returns-3 c =
@@ -36,4 +30,4 @@ returns-3 c =
     (sym (holds-below (a .w) (heldBy (a .self)) (a .t) (omega arith)), omega arith)
 
 pub holds-spec : {M : Type 1} → statement M
-holds-spec = tie.close (tie.spec returns cast-result shr-result cast-result-2 returns-2 returns-3)
+holds-spec = tie.close (tie.spec returns bit-requires returns-2 returns-3)

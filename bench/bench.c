@@ -1,7 +1,8 @@
 /*
  * What a call costs in time: nanoseconds of deliver and read at n = 4, 7 and 32 over a recorded run, beside the plain C model of
- * tests/compare, in one run of one program, as ratios; the dearest sound image that we know for one deliver; the same for sheets of 1,
- * 20 and 200 entries. Prints the tables of time in docs/PERFORMANCE.md. What it costs in stack: tests/stack.
+ * tests/compare, in one run of one program, as ratios; the dearest sound image that we know for one deliver; convert on a fresh old image
+ * and on a dear one; the same for sheets of 1, 20 and 200 entries. Prints the tables of time in docs/PERFORMANCE.md. What it costs in
+ * stack: tests/stack.
  */
 #define _XOPEN_SOURCE 600
 #include <stdio.h>
@@ -16,7 +17,7 @@ enum { ROUNDS = 9 };
 typedef struct model_result deliver_call(uint8_t *, size_t, uint32_t, const uint8_t *, size_t, uint8_t *, size_t);
 typedef struct model_result read_call(const uint8_t *, size_t);
 typedef struct model_result pack_call(const uint8_t *, size_t, uint32_t, const uint8_t *, size_t);
-typedef struct model_result write_call(const uint8_t *, size_t, uint8_t *, size_t);
+typedef struct model_result write_call(const uint8_t *, size_t, uint8_t *, size_t); /* of convert as well */
 
 static uint8_t fresh[PEBRASSOLA_IMAGE_BYTES(MOST)], image[sizeof fresh], out[PEBRASSOLA_OUT_BYTES];
 static volatile uint32_t sink;
@@ -46,6 +47,13 @@ static struct model_result proved_pack(const uint8_t *s, size_t s_length, uint32
 static struct model_result proved_write_sheet(const uint8_t *e, size_t e_length, uint8_t *o, size_t o_length)
 {
     struct pebrassola_written a = pebrassola_write_sheet(e, e_length, o, o_length);
+    struct model_result r = {a.number, a.written, 0};
+    return r;
+}
+
+static struct model_result proved_convert(const uint8_t *old, size_t old_length, uint8_t *i, size_t i_length)
+{
+    struct pebrassola_written a = pebrassola_convert(old, old_length, i, i_length);
     struct model_result r = {a.number, a.written, 0};
     return r;
 }
@@ -128,6 +136,21 @@ static unsigned dearest(unsigned n, size_t size)
     return which;
 }
 
+/* ---- old images */
+
+static uint8_t old[PEBRASSOLA_OLD_IMAGE_BYTES(MOST)];
+
+static double time_convert(write_call *convert, size_t size)
+{
+    enum { CALLS = 256 };
+    for (int round = 0; round < ROUNDS; round++) {
+        start_round();
+        for (unsigned e = 0; e < CALLS; e++) sink += convert(old, size, image, sizeof image).value;
+        end_round();
+    }
+    return least_call(CALLS);
+}
+
 /* ---- sheets, asked by an idle node of four */
 
 enum { ASKING = 4 };
@@ -160,6 +183,12 @@ static double time_write(write_call *write, const uint8_t *sheet, size_t length)
 static void row(const char *what, unsigned n, double proved, double plain)
 {
     printf("| %s | %u | %.0f | %.0f | %.2f |\n", what, n, proved, plain, proved / plain);
+}
+
+static void convert_row(const char *what, unsigned n, int dear)
+{
+    size_t size = make_old(n, dear, old);
+    row(what, n, time_convert(proved_convert, size), time_convert(model_convert, size));
 }
 
 static void sheet_rows(void)
@@ -199,6 +228,8 @@ int main(void)
         proved = time_dear(proved_deliver, size, &dear);
         plain = time_dear(model_deliver, size, &dear);
         row("deliver, dearest", n, proved, plain);
+        convert_row("convert, fresh", n, 0);
+        convert_row("convert, dear", n, 1);
     }
     puts("\n| call | entries | proved, ns | plain C, ns | ratio |\n|---|---|---|---|---|");
     sheet_rows();

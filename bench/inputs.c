@@ -1,4 +1,4 @@
-/* A recorded run, dear images and sheets. All are the same at each run: nothing here is drawn by lot. */
+/* A recorded run, dear images, old images and sheets. All are the same at each run: nothing here is drawn by lot. */
 #include "inputs.h"
 
 #include <stdio.h>
@@ -7,7 +7,7 @@
 
 #include "../tests/compare/words.h"
 
-enum { PLACES = 65536 };
+enum { PLACES = 65536, HEADER = PEBRASSOLA_IMAGE_BYTES(0), OLD_WINDOW = 64 };
 
 const unsigned sizes[SIZES] = {4, 7, MOST};
 struct event events[EVENTS];
@@ -99,21 +99,22 @@ static int may_hold(unsigned n, unsigned in_turn, uint32_t tick, unsigned i)
     return !in_turn || (tick + i) % n < PEBRASSOLA_FULL_FAULTS(n);
 }
 
-static void put_dear_set(uint8_t *set, unsigned n, unsigned in_turn, uint32_t top, unsigned i)
+/* as many ticks from a top down as a window has; gives the place behind the set */
+static uint8_t *put_dear_set(uint8_t *set, unsigned window, unsigned n, unsigned in_turn, uint32_t top, unsigned i)
 {
-    uint8_t mask[8] = {0};
+    uint8_t *behind = set + 4 + window / 8;
     while (!may_hold(n, in_turn, top, i)) top--;
-    for (unsigned d = 0; d < 64; d++)
-        if (may_hold(n, in_turn, top - d, i)) mask[7 - d / 8] |= (uint8_t)(1 << d % 8);
     put4(set, top);
-    memcpy(set + 4, mask, 8);
+    for (unsigned d = 0; d < window; d++)
+        if (may_hold(n, in_turn, top - d, i)) behind[-1 - (int)(d / 8)] |= (uint8_t)(1 << d % 8);
+    return behind;
 }
 
 /* tops a gap apart, alone or in groups of f; active, or passive with dear inits as well; the frame changes nothing, or makes the lowest
  * tick one that f + 1 hold, so that the node jumps and searches again */
 struct event make_dear(unsigned n, unsigned family, uint8_t *image)
 {
-    static const uint32_t gaps[] = {0, 1, 31, 63, 64, 65, 100};
+    static const uint32_t gaps[FAMILIES / 8] = {0, 1, 31, 63, 64, 65, 127, 128, 200};
     unsigned f = PEBRASSOLA_FULL_FAULTS(n), grouped = family & 1, passive = family >> 1 & 1, jumps = family >> 2 & 1;
     uint32_t gap = gaps[family >> 3], lowest = 1000;
     struct event dear = {serial(0), {jumps ? 2 : 1}};
@@ -121,14 +122,44 @@ struct event make_dear(unsigned n, unsigned family, uint8_t *image)
     image[2] = !passive;
     for (unsigned i = 0; i < n; i++) {
         uint32_t top = 1000 + gap * (grouped ? i / f : i);
-        uint8_t *row = image + PEBRASSOLA_IMAGE_BYTES(n - 1 - i);
-        put_dear_set(row + 4, n, gap < 64, top, i);
-        if (i == 0) lowest = get4(row + 4);
-        if (passive) put_dear_set(row + 16, n, gap < 64, top, i);
+        unsigned in_turn = gap < PEBRASSOLA_WINDOW;
+        uint8_t *echo = image + PEBRASSOLA_IMAGE_BYTES(n - 1 - i) + 4;
+        uint8_t *init = put_dear_set(echo, PEBRASSOLA_WINDOW, n, in_turn, top, i);
+        if (i == 0) lowest = get4(echo);
+        if (passive) put_dear_set(init, PEBRASSOLA_WINDOW, n, in_turn, top, i);
     }
     put4(dear.frame + 4, jumps ? lowest : 9);
     expect(pebrassola_read(image, PEBRASSOLA_IMAGE_BYTES(n)).number != PEBRASSOLA_IMAGE, "a dear image is not sound");
     return dear;
+}
+
+/* ---- old images: passive, so that every rule is looked for */
+
+size_t make_old(unsigned n, int dear, uint8_t *old)
+{
+    static uint8_t made[PEBRASSOLA_IMAGE_BYTES(MOST)];
+    size_t size = PEBRASSOLA_OLD_IMAGE_BYTES(n), room = PEBRASSOLA_IMAGE_BYTES(n);
+    memset(old, 0, size);
+    put4(old, n << 24 | PEBRASSOLA_FULL_FAULTS(n) << 16);
+    put4(old + 4, serial(0));
+    put4(old + 16, (uint32_t)HEADER << 16 | (uint32_t)size);
+    for (unsigned i = 0; i < n; i++) {
+        uint8_t *row = old + PEBRASSOLA_OLD_IMAGE_BYTES(i);
+        put4(row, serial(i));
+        if (dear) put_dear_set(put_dear_set(row + 4, OLD_WINDOW, n, 1, 1000 + i, i), OLD_WINDOW, n, 1, 1000 + i, i);
+    }
+    expect(pebrassola_convert(old, size, made, room).number == PEBRASSOLA_DONE, "an old image is refused");
+    return size;
+}
+
+void unsettle(unsigned n, int is_old, uint8_t *image)
+{
+    unsigned window = is_old ? OLD_WINDOW : PEBRASSOLA_WINDOW;
+    for (unsigned i = 0; i < n; i++) {
+        uint8_t *echo = image + (is_old ? PEBRASSOLA_OLD_IMAGE_BYTES(i) : PEBRASSOLA_IMAGE_BYTES(i)) + 4;
+        put4(echo, 1000);
+        echo[4 + window / 8 - 1] = 1;
+    }
 }
 
 /* ---- sheets */

@@ -1,8 +1,9 @@
 /*
  * Pebrassola: one node of a fault-tolerant clock for up to 32 controllers, of which fewer than a third may misbehave in any way.
  *
- * Boot, deliver and read run a node. A sheet says which packs are licensed from which tick to which: pack tells whether one is in
- * force at the tick that a node's clock has, and write_sheet makes a sheet.
+ * Boot, deliver and read run a node. Convert is for service: it makes an image of today out of one from before A8. A sheet says which
+ * packs are licensed from which tick to which: pack tells whether one is in force at the tick that a node's clock has, and write_sheet
+ * makes a sheet.
  *
  * All are calls on byte buffers that the caller owns. Nothing has to be checked before a call: every form, image, port, frame, sheet,
  * pack number and buffer is handled, or refused with a number of enum pebrassola_number. A refusal reports nothing else (every other
@@ -26,18 +27,27 @@ extern "C" {
 #endif
 
 /*
- * Bytes of a roster form and of a node image for n controllers, of a frame, of a record to send, and of the output of boot and deliver.
- * Words are big-endian. A frame is kind (byte 0: 1 init, 2 echo), flag (byte 1), two zero bytes, then the tick in 4 bytes. The flag is 1
- * in an answer, which is an echo to one controller alone, and 0 in a broadcast. A record is the serial that it goes to, 0 for all
- * (the sender included), then a frame: the wiring carries all 8 bytes of the frame as they are, the flag among them.
+ * Bytes of a roster form and of a node image for n controllers, of an image from before A8, of a frame, of a record to send, and of the
+ * output of boot and deliver. Words are big-endian. A frame is kind (byte 0: 1 init, 2 echo), flag (byte 1), two zero bytes, then the
+ * tick in 4 bytes. The flag is 1 in an answer, which is an echo to one controller alone, and 0 in a broadcast. A record is the serial
+ * that it goes to, 0 for all (the sender included), then a frame: the wiring carries all 8 bytes of the frame as they are, the flag among
+ * them.
  */
 #define PEBRASSOLA_FORM_BYTES(n) (8u + 4u * (size_t)(n))
-#define PEBRASSOLA_IMAGE_BYTES(n) (32u + 28u * (size_t)(n))
+#define PEBRASSOLA_IMAGE_BYTES(n) (32u + 44u * (size_t)(n))
+#define PEBRASSOLA_OLD_IMAGE_BYTES(n) (32u + 28u * (size_t)(n))
 #define PEBRASSOLA_FRAME_BYTES 8u
 #define PEBRASSOLA_RECORD_BYTES 12u
 #define PEBRASSOLA_OUT_BYTES 192u
 #define PEBRASSOLA_MOST_CONTROLLERS 32u
 #define PEBRASSOLA_LAST_TICK 4000000000u
+
+/*
+ * How many ticks a node remembers of what a controller sent, for each kind of frame: the greatest, and those less than this many below
+ * it. Before A8 it was 64. An image has a bit for each of them, so images are longer now: firmware that lends boot the
+ * PEBRASSOLA_OLD_IMAGE_BYTES(n) of then gets 6.
+ */
+#define PEBRASSOLA_WINDOW 128u
 
 /*
  * The f that a form of n controllers, 1 to 32, has to state: the greatest number of faulty ones that n allows, (n - 1) / 3 rounded down.
@@ -57,17 +67,18 @@ extern "C" {
 
 /*
  * What a call of the x86-64 archive takes of the stack at most, in bytes, whatever it is handed, its return address included; the last is
- * the greatest of the five. The caller adds its own frames and the last argument of deliver, which passes on the stack.
+ * the greatest of the six. The caller adds its own frames and the last argument of deliver, which passes on the stack.
  *
  * The calls keep to the System V convention, by which a function may use the 128 bytes below its stack pointer; the figures count them.
  * An interrupt that the processor puts on the same stack would overwrite these bytes: interrupts need a stack of their own. Signals of an
  * operating system step over them.
  */
 #define PEBRASSOLA_BOOT_STACK_BYTES 368u
-#define PEBRASSOLA_DELIVER_STACK_BYTES 520u
-#define PEBRASSOLA_READ_STACK_BYTES 392u
-#define PEBRASSOLA_PACK_STACK_BYTES 440u
+#define PEBRASSOLA_DELIVER_STACK_BYTES 816u
+#define PEBRASSOLA_READ_STACK_BYTES 688u
+#define PEBRASSOLA_PACK_STACK_BYTES 736u
 #define PEBRASSOLA_WRITE_SHEET_STACK_BYTES 296u
+#define PEBRASSOLA_CONVERT_STACK_BYTES 432u
 #define PEBRASSOLA_STACK_BYTES PEBRASSOLA_DELIVER_STACK_BYTES
 
 /*
@@ -95,9 +106,10 @@ enum pebrassola_number {
     PEBRASSOLA_FORM_ZERO = 3,         /* a serial or the own serial is 0 */
     PEBRASSOLA_FORM_TWICE = 4,        /* a serial stands twice */
     PEBRASSOLA_FORM_OWN = 5,          /* own serial not in the list */
-    PEBRASSOLA_IMAGE_ROOM = 6,        /* image buffer shorter than 32 + 28n */
+    PEBRASSOLA_IMAGE_ROOM = 6,        /* image buffer to be written shorter than 32 + 44n */
     PEBRASSOLA_OUT_ROOM = 7,          /* output shorter than 192 bytes; for write_sheet, than the sheet */
-    PEBRASSOLA_IMAGE = 8,             /* image buffer shorter than 32 or than its stated size, or image not sound */
+    PEBRASSOLA_IMAGE = 8,             /* image buffer shorter than 32 or than its stated size, or image not sound; byte 3 of a sound one
+                                         is 1, and 0 where convert takes one from before A8 */
     PEBRASSOLA_PORT = 9,              /* port serial not in the roster */
     PEBRASSOLA_FRAME = 10,            /* frame not 8 long, kind not 1 or 2, flag not 0 for init or above 1 for echo, or bytes 2..3 not
                                          zero */
@@ -131,7 +143,7 @@ struct pebrassola_licence {
     uint32_t licence;
 };
 
-/* The number of a call, and how many bytes were written at the front of the output: 0 unless the number is 0. */
+/* The number of a call, and how many bytes were written at the front of the buffer that it writes to: 0 unless the number is 0. */
 struct pebrassola_written {
     uint32_t number;
     uint32_t written;
@@ -167,6 +179,15 @@ struct pebrassola_answer pebrassola_deliver(uint8_t *image, size_t image_length,
 
 /* Reads the clock of an active node. Gives 8, then 12 while the node is passive. */
 struct pebrassola_reading pebrassola_read(const uint8_t *image, size_t image_length);
+
+/*
+ * Takes an image from before A8 (byte 3 is 0, PEBRASSOLA_OLD_IMAGE_BYTES(n) long) and writes the same node as an image of today at the
+ * front of another buffer: clock, mode, last echo, own serial, the roster in its order, and every tick that is held. Deliver, read and
+ * pack refuse the old image with 8, and take the new one; the two buffers do not overlap, so the old one is there until the new one is
+ * written. Gives 8 where the old image is not sound as images were before A8, with the full f that A7 asks (an image of today is none of
+ * these), then 6 where there is room for less than PEBRASSOLA_IMAGE_BYTES(n). Bytes behind either image are no matter, and stay.
+ */
+struct pebrassola_written pebrassola_convert(const uint8_t *old, size_t old_length, uint8_t *image, size_t image_length);
 
 /*
  * Says whether a pack of a sheet is in force at the tick that this node's clock has. Entries may stand in any order, and their order

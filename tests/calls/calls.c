@@ -2,7 +2,7 @@
  * Plays calls through the archive: a line of standard input is a call with its outcome by an independent model, as the first lines of
  * calls.txt say. Every buffer has guard bytes around it, and has to be as it was after the call, or as the line says. A line that is no
  * call ends the program with status 2, so that nothing is passed over. Prints which lines differ, and how many; ends with status 1
- * where one does, or where there was none.
+ * where one does, where there was none, or where a call was never made, unless SOME_CALLS is defined: then lines of some calls will do.
  */
 #include <ctype.h>
 #include <stdio.h>
@@ -101,27 +101,57 @@ static int play_write_sheet(void)
     return r.number == number && r.written == written && same(&entries) && same(&out);
 }
 
+static int play_convert(void)
+{
+    static struct both old, image;
+    struct pebrassola_written r;
+    uint32_t number, written;
+    lend_column(&old);
+    lend_column(&image);
+    number = number_column(DECIMAL);
+    written = number_column(DECIMAL);
+    left_column(&image);
+    r = pebrassola_convert(place(&old.proved), old.proved.length, place(&image.proved), image.proved.length);
+    return r.number == number && r.written == written && same(&old) && same(&image);
+}
+
+enum { CALLS = 3 };
+
 static const struct {
     const char *word;
     int (*play)(void);
-} calls[] = {{"pack", play_pack}, {"write_sheet", play_write_sheet}};
+} calls[CALLS] = {{"pack", play_pack}, {"write_sheet", play_write_sheet}, {"convert", play_convert}};
+
+static unsigned long made[CALLS]; /* how often each call was made */
 
 static int play(const char *word)
 {
-    for (unsigned c = 0; c < sizeof calls / sizeof calls[0]; c++)
+    for (unsigned c = 0; c < CALLS; c++)
         if (word && strcmp(word, calls[c].word) == 0) {
             int agrees = calls[c].play();
             no_more_columns();
+            made[c]++;
             return agrees;
         }
     stop("is no call");
     return 0;
 }
 
+/* a file that lost all lines of a call would agree with anything that the call does */
+static unsigned long never_made(void)
+{
+    unsigned long never = 0;
+#ifndef SOME_CALLS
+    for (unsigned c = 0; c < CALLS; c++)
+        if (!made[c]) printf("calls: no line has the call %s\n", calls[c].word), never++;
+#endif
+    return never;
+}
+
 int main(void)
 {
     static char text[LONGEST_LINE];
-    unsigned long agree = 0, differ = 0;
+    unsigned long agree = 0, differ = 0, never;
     while (fgets(text, sizeof text, stdin)) {
         line++;
         if (!strchr(text, '\n')) stop("is too long, or was cut");
@@ -133,6 +163,7 @@ int main(void)
             if (differ <= 10) printf("differs: line %lu\n", line);
         }
     }
+    never = never_made();
     printf("calls: %lu agree, %lu differ\n", agree, differ);
-    return differ != 0 || agree == 0;
+    return differ != 0 || never != 0 || agree == 0;
 }

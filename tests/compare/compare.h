@@ -36,6 +36,19 @@ struct node_calls {
 /* every comparison of boot, deliver and read */
 struct node_calls compare_nodes(void);
 
+/* one comparison of a delivery or a reading; gives the number, and leaves the image as the model does */
+uint32_t deliver(uint8_t *kept, size_t i_length, uint32_t port, const uint8_t *fr, size_t fr_length, size_t o_length);
+uint32_t read_clock(uint8_t *kept, size_t i_length);
+
+/* a form of n controllers in any order, of which any one fills it in; gives its length */
+size_t make_form(uint8_t *f, unsigned n, unsigned faults);
+
+/* a frame that a node with this image may be handed, right or wrong: mostly about its clock, or at an edge of its window */
+void make_frame(uint8_t *b, const uint8_t *kept);
+
+/* a set about a tick with so many bytes of mask, as an image may hold it: empty, thick or thin */
+void make_set(uint8_t *b, unsigned mask_bytes, uint32_t base);
+
 /* an f for n controllers: mostly the full one, else one less or more, or any */
 unsigned some_faults(unsigned n);
 
@@ -44,6 +57,16 @@ size_t live(uint8_t *form, uint8_t *kept, unsigned n, unsigned frames);
 
 /* writes mode, k and last echo over those of an image */
 void set_clock(uint8_t *kept, unsigned mode, uint32_t k, uint32_t last_echo);
+
+/* ---- conversions.c */
+
+struct conversion_calls {
+    unsigned long all, rarest;  /* calls, and how often the number came that came least */
+    unsigned long sound_images; /* random old images that were sound */
+};
+
+/* every comparison of convert, and of deliver and read on what it writes */
+struct conversion_calls compare_conversions(void);
 
 /* ---- sheets.c */
 

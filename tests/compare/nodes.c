@@ -1,8 +1,9 @@
 /*
  * Compares boot, deliver and read with the model: long valid runs with faulty senders, random images, every single-bit damage of sound
- * images, every f in forms and images, truncated and over-long buffers, empty ones with a pointer that may not be read, forms, frames and
- * ports of all kinds, and the deliveries that bring most. No delivery may fire more rules or send more records than the header says, and
- * an f that is not the full one gives 2 or 21 in a form and 8 in an image.
+ * images, every f in forms and images, every byte 3, ticks at each edge of the window and of a word of the mask, truncated and over-long
+ * buffers, empty ones with a pointer that may not be read, forms, frames and ports of all kinds, and the deliveries that bring most. No
+ * delivery may fire more rules or send more records than the header says, an f that is not the full one gives 2 or 21 in a form and 8 in
+ * an image, and a byte 3 that is not 1 gives 8.
  */
 #include <string.h>
 
@@ -12,7 +13,7 @@
 #include "pebrassola.h"
 #include "words.h"
 
-enum { BOOT, DELIVER, READ, CALLS, NUMBERS = 64 };
+enum { BOOT, DELIVER, READ, CALLS, NUMBERS = 64, MASK_BYTES = PEBRASSOLA_WINDOW / 8, SET_BYTES = 4 + MASK_BYTES };
 
 static const char *const names[CALLS] = {"boot", "deliver", "read"};
 static struct node_calls counted;
@@ -57,7 +58,7 @@ static uint32_t boot(const uint8_t *f, size_t f_length, uint8_t *kept, size_t i_
     return compare(BOOT, r.number, r.records, r.fired, m, kept);
 }
 
-static uint32_t deliver(uint8_t *kept, size_t i_length, uint32_t port, const uint8_t *fr, size_t fr_length, size_t o_length)
+uint32_t deliver(uint8_t *kept, size_t i_length, uint32_t port, const uint8_t *fr, size_t fr_length, size_t o_length)
 {
     struct pebrassola_answer r;
     struct model_result m;
@@ -71,7 +72,7 @@ static uint32_t deliver(uint8_t *kept, size_t i_length, uint32_t port, const uin
     return number;
 }
 
-static uint32_t read_clock(uint8_t *kept, size_t i_length)
+uint32_t read_clock(uint8_t *kept, size_t i_length)
 {
     struct pebrassola_reading r;
     struct model_result m;
@@ -95,7 +96,7 @@ unsigned some_faults(unsigned n)
     }
 }
 
-static size_t make_form(uint8_t *f, unsigned n, unsigned faults)
+size_t make_form(uint8_t *f, unsigned n, unsigned faults)
 {
     f[0] = (uint8_t)n;
     f[1] = (uint8_t)faults;
@@ -115,17 +116,19 @@ static unsigned make_flag(unsigned kind)
     return kind == 2 ? any(2) : 0;
 }
 
-static void make_frame(uint8_t *b, const uint8_t *kept)
+void make_frame(uint8_t *b, const uint8_t *kept)
 {
-    static const uint32_t far[] = {0, 1, 2, 62, 63, 64, 65, 66, 1000, 3999999998u, 3999999999u, 4000000000u, 4000000001u, 0xFFFFFFFFu};
+    enum { DISTANCES = 14 }; /* the first of these: about an edge of the window or of a word of the mask, and far beyond */
+    static const uint32_t far[] = {0, 1, 2, 62, 63, 64, 65, 66, 126, 127, 128, 129, 130, 1000,
+                                   3999999998u, 3999999999u, 4000000000u, 4000000001u, 0xFFFFFFFFu};
     uint32_t k = get4(kept + 8), tick;
     memset(b, 0, 8);
     b[0] = (uint8_t)(1 + any(2));
     b[1] = (uint8_t)make_flag(b[0]);
     switch (any(9)) {
     case 0: tick = far[any(sizeof far / sizeof far[0])]; break;
-    case 1: tick = k + far[any(9)]; break;
-    case 2: tick = k - far[any(9)]; break;
+    case 1: tick = k + far[any(DISTANCES)]; break;
+    case 2: tick = k - far[any(DISTANCES)]; break;
     case 3: tick = 0; break;
     default: tick = k + any(5) - (k > 1 ? 2 : 0); break;
     }
@@ -136,7 +139,7 @@ static void make_frame(uint8_t *b, const uint8_t *kept)
 size_t live(uint8_t *form, uint8_t *kept, unsigned n, unsigned frames)
 {
     uint8_t fr[16];
-    size_t size = 32 + 28 * (size_t)n, f_length = make_form(form, n, PEBRASSOLA_FULL_FAULTS(n));
+    size_t size = PEBRASSOLA_IMAGE_BYTES(n), f_length = make_form(form, n, PEBRASSOLA_FULL_FAULTS(n));
     memset(kept, 0, size);
     boot(form, f_length, kept, size, 192);
     for (unsigned s = 0; s < frames; s++) {
@@ -156,7 +159,7 @@ void set_clock(uint8_t *kept, unsigned mode, uint32_t k, uint32_t last_echo)
 static void run(unsigned n, unsigned steps)
 {
     uint8_t f[MOST], kept[MOST], fr[16];
-    size_t size = 32 + 28 * (size_t)n + any(4), f_length = make_form(f, n, PEBRASSOLA_FULL_FAULTS(n));
+    size_t size = PEBRASSOLA_IMAGE_BYTES(n) + any(4), f_length = make_form(f, n, PEBRASSOLA_FULL_FAULTS(n));
     for (size_t i = 0; i < size; i++) kept[i] = (uint8_t)any(256);
     boot(f, f_length, kept, size, 192 + any(9));
     for (unsigned s = 0; s < steps; s++) {
@@ -169,29 +172,39 @@ static void run(unsigned n, unsigned steps)
     }
 }
 
-/* a set around the tick `base`: empty, thick or thin */
-static void make_set(uint8_t *b, uint32_t base)
+/* makes bit i of a mask that stands in so many bytes 1 */
+static void put_bit(uint8_t *mask, unsigned bytes, unsigned i)
+{
+    mask[bytes - 1 - i / 8] |= (uint8_t)(1 << i % 8);
+}
+
+void make_set(uint8_t *b, unsigned mask_bytes, uint32_t base)
 {
     uint32_t top = base > 4 && base < 3999999990u ? base - 4 + any(7) : base;
-    uint64_t high = any(0x80000000u), middle = any(0x80000000u), mask = high << 33 ^ middle << 2 ^ any(4);
-    if (any(2)) mask &= mask >> 7 & mask >> 13;
-    mask |= 1;
-    if (top < 63) mask &= ((uint64_t)1 << (top + 1)) - 1;
-    if (any(5) == 0) top = 0, mask = 0;
+    unsigned thin = any(2);
+    memset(b, 0, 4 + mask_bytes);
+    if (any(5) == 0) return;
     put4(b, top);
-    put4(b + 4, (uint32_t)(mask >> 32));
-    put4(b + 8, (uint32_t)mask);
+    for (unsigned i = 0; i < mask_bytes; i++) {
+        unsigned bits = any(256);
+        if (thin) bits &= any(256);
+        if (thin) bits &= any(256);
+        if (top < 8 * i) bits = 0;
+        else if (top < 8 * i + 7) bits &= (2u << (top - 8 * i)) - 1;
+        b[4 + mask_bytes - 1 - i] = (uint8_t)bits;
+    }
+    put_bit(b + 4, mask_bytes, 0);
 }
 
 /* an image of right layout with any sets, and sometimes another f than the full one; some are sound, and those are delivered to */
 static void random_image(unsigned n)
 {
-    static const uint32_t bases[] = {0, 1, 2, 3, 10, 62, 63, 64, 65, 5000, 3999999999u, 4000000000u};
+    static const uint32_t bases[] = {0, 1, 2, 3, 10, 62, 63, 64, 65, 126, 127, 128, 129, 5000, 3999999999u, 4000000000u};
     uint8_t f[MOST], kept[MOST], fr[16];
     size_t size = live(f, kept, n, 0);
     uint32_t base = bases[any(sizeof bases / sizeof bases[0])], k = base + any(4), last;
     for (unsigned i = 0; i < n; i++)
-        for (unsigned kind = 0; kind < 2; kind++) make_set(kept + 36 + 28 * i + 12 * kind, base);
+        for (unsigned kind = 0; kind < 2; kind++) make_set(kept + PEBRASSOLA_IMAGE_BYTES(i) + 4 + SET_BYTES * kind, MASK_BYTES, base);
     if (k > 4000000000u && any(20)) k = 4000000000u;
     last = k && any(3) == 0 ? k - 1 : k;
     set_clock(kept, any(4) != 0, k, last);
@@ -201,6 +214,71 @@ static void random_image(unsigned n)
         make_frame(fr, kept);
         deliver(kept, size, get4(f + 8 + 4 * any(n)), fr, 8, 192);
     }
+}
+
+/* a set of ticks from low on, up to three windows above it, none of which is then held by more than so many */
+static void make_far_set(uint8_t *set, uint32_t low, uint8_t *holders, unsigned most)
+{
+    unsigned top = any(3 * PEBRASSOLA_WINDOW), thin = 1 + any(4);
+    if (holders[top] >= most) return;
+    put4(set, low + top);
+    for (unsigned d = 0; d < PEBRASSOLA_WINDOW && d <= top; d++)
+        if (holders[top - d] < most && (d == 0 || any(thin) == 0)) {
+            put_bit(set + 4, MASK_BYTES, d);
+            holders[top - d]++;
+        }
+}
+
+/* an image in which many ticks far above the clock have f holders; with one more, which a frame brings, the node jumps or wakes */
+static void far_image(unsigned n)
+{
+    static const uint32_t clocks[] = {0, 1, 62, 126, 1000, 3999999000u};
+    uint8_t f[MOST], kept[MOST], fr[8], holders[2][3 * PEBRASSOLA_WINDOW] = {{0}};
+    size_t size = live(f, kept, n, 0);
+    uint32_t k = clocks[any(sizeof clocks / sizeof clocks[0])];
+    set_clock(kept, any(2), k, k);
+    for (unsigned i = 0; i < n; i++)
+        for (unsigned kind = 0; kind < 2; kind++)
+            make_far_set(kept + PEBRASSOLA_IMAGE_BYTES(i) + 4 + SET_BYTES * kind, k + 2, holders[kind], PEBRASSOLA_FULL_FAULTS(n));
+    hold("read, ticks far above the clock", read_clock(kept, size) != PEBRASSOLA_IMAGE);
+    for (unsigned s = 0; s < 3; s++) {
+        put4(fr, (any(4) ? 2u : 1u) << 24);
+        put4(fr + 4, k + 2 + any(3 * PEBRASSOLA_WINDOW));
+        deliver(kept, size, get4(f + 8 + 4 * any(n)), fr, 8, 192);
+    }
+}
+
+/* distances from a top at which an edge is: of a byte, of a word of the mask, of the window before A8 and of today's, and none */
+static const uint32_t edges[] = {0, 1, 2, 3, 7, 8, 61, 62, 63, 64, 65, 66, 67, 125, 126, 127, 128, 129, 130, 191, 192, 1000};
+
+enum { EDGES = sizeof edges / sizeof edges[0] };
+
+/*
+ * one of four that has heard a tick and another so far below it of one sender, or all between them; then a frame so far above the top, or
+ * so far below. The clock is far from all of this, so that no rule can fire
+ */
+static void window_edge(unsigned kind, uint32_t below, int all, uint32_t by, int up)
+{
+    enum { TOP = 1000, CLOCK = 100000 };
+    uint8_t f[MOST], kept[MOST], fr[8] = {(uint8_t)kind};
+    size_t size = live(f, kept, 4, 0);
+    unsigned row = any(4);
+    uint8_t *set = kept + PEBRASSOLA_IMAGE_BYTES(row) + 4 + (kind == 1 ? SET_BYTES : 0);
+    set_clock(kept, 1, CLOCK, CLOCK);
+    put4(set, TOP);
+    for (uint32_t i = 0; i <= below && i < PEBRASSOLA_WINDOW; i++)
+        if (all || i == 0 || i == below) put_bit(set + 4, MASK_BYTES, i);
+    put4(fr + 4, up ? TOP + by : TOP - by);
+    hold("deliver, at an edge of the window", deliver(kept, size, get4(f + 8 + 4 * row), fr, 8, 192) == PEBRASSOLA_DONE);
+    read_clock(kept, size);
+}
+
+static void window_edges(void)
+{
+    for (unsigned kind = 1; kind <= 2; kind++)
+        for (unsigned below = 0; below < EDGES; below++)
+            for (unsigned by = 0; by < EDGES; by++)
+                for (unsigned which = 0; which < 4; which++) window_edge(kind, edges[below], which & 1, edges[by], which >> 1);
 }
 
 /* a sound image with each bit changed, those of f in byte 1 among them: 8 then, whatever the image holds */
@@ -245,13 +323,27 @@ static void every_faults(unsigned n, unsigned frames)
     }
 }
 
+/* every byte 3 in the image of a node that has lived: 1 alone is taken */
+static void every_mark(unsigned n, unsigned frames)
+{
+    uint8_t f[MOST], kept[MOST], hurt[MOST], fr[16];
+    size_t size = live(f, kept, n, frames);
+    for (unsigned mark = 0; mark < 256; mark++) {
+        memcpy(hurt, kept, size);
+        hurt[3] = (uint8_t)mark;
+        hold("read, every byte 3", (read_clock(hurt, size) == PEBRASSOLA_IMAGE) == (mark != 1));
+        make_frame(fr, kept);
+        hold("deliver, every byte 3", (deliver(hurt, size, get4(f + 8), fr, 8, 192) == PEBRASSOLA_IMAGE) == (mark != 1));
+    }
+}
+
 static void forms(unsigned rounds)
 {
     uint8_t f[MOST], kept[MOST];
     memset(kept, 7, sizeof kept);
     for (unsigned r = 0; r < rounds; r++) {
         unsigned n = 1 + any(34), faults = some_faults(n), line = any(n);
-        size_t length = make_form(f, n, faults), size = 32 + 28 * (size_t)n, room;
+        size_t length = make_form(f, n, faults), size = PEBRASSOLA_IMAGE_BYTES(n), room;
         switch (any(8)) {
         case 0: put4(f + 8 + 4 * line, 0); break;
         case 1: put4(f + 8 + 4 * line, get4(f + 8 + 4 * any(n))); break;
@@ -300,7 +392,7 @@ static void greatest_figures(void)
 static void empty_buffers(unsigned n)
 {
     uint8_t f[MOST], kept[MOST], fr[8] = {2};
-    size_t size = 32 + 28 * (size_t)n, f_length = make_form(f, n, PEBRASSOLA_FULL_FAULTS(n));
+    size_t size = PEBRASSOLA_IMAGE_BYTES(n), f_length = make_form(f, n, PEBRASSOLA_FULL_FAULTS(n));
     memset(kept, 7, sizeof kept);
     for (unsigned p = 0; p < NO_PLACES; p++)
         for (unsigned empty = 0; empty < 8; empty++) {
@@ -331,7 +423,10 @@ struct node_calls compare_nodes(void)
     for (unsigned n = 1; n <= 32; n++) {
         for (unsigned round = 0; round < 6; round++) run(n, n == 4 || n == 7 ? 1500 : 600);
         every_faults(n, any(60));
+        every_mark(n, any(60));
     }
+    window_edges();
+    for (unsigned round = 0; round < 400; round++) far_image(4 + any(29));
     for (unsigned round = 0; round < 12; round++) {
         damage(1, 20 * round);
         damage(3, 30 * round);

@@ -1,7 +1,7 @@
 /*
- * The header against the archive, by answers that the papers settle, or that their rules give by hand, with no model between: W1 to W9 of
- * document 01, a sheet for A1 of document 02, frames and two idle controllers for A2, the deliveries that bring most for A6, forms and
- * images beside the full f for A7, and a call for each number.
+ * The header against the archive, by answers that the papers settle, or that their rules give by hand, with no model between: W1 to W10
+ * of document 01, a sheet for A1 of document 02, frames and two idle controllers for A2, the deliveries that bring most for A6, forms and
+ * images beside the full f for A7, old images and what becomes of them for A8, and a call for each number.
  * The archive puts an answer's fields where its own struct has them, and a C compiler knows only the header's struct: so each field is
  * looked at where its value is known and any other field's is another. Sizes, places and numbers are looked at when this is compiled,
  * unless CALLS_ALONE is defined: then the calls have to notice by themselves. Prints what is wrong and a count; ends with status 1 where
@@ -49,9 +49,11 @@ SETTLED(licences, PEBRASSOLA_NOT_LICENSED == 0 && PEBRASSOLA_NOT_IN_FORCE == 1 &
 SETTLED(sheets, PEBRASSOLA_SHEET_BYTES(0) == 4 && PEBRASSOLA_SHEET_BYTES(200) == 2404);
 SETTLED(entries, PEBRASSOLA_ENTRY_BYTES == 12 && PEBRASSOLA_MOST_ENTRIES == 200);
 
-/* 01, "Layouts" and "Limits" */
+/* 01, "Layouts" and "Limits", and A8 */
 SETTLED(forms, PEBRASSOLA_FORM_BYTES(4) == 24 && PEBRASSOLA_MOST_CONTROLLERS == 32);
-SETTLED(images, PEBRASSOLA_IMAGE_BYTES(4) == 144 && PEBRASSOLA_IMAGE_BYTES(32) == 928);
+SETTLED(images, PEBRASSOLA_IMAGE_BYTES(1) == 76 && PEBRASSOLA_IMAGE_BYTES(4) == 208 && PEBRASSOLA_IMAGE_BYTES(32) == 1440);
+SETTLED(old_images, PEBRASSOLA_OLD_IMAGE_BYTES(1) == 60 && PEBRASSOLA_OLD_IMAGE_BYTES(4) == 144 && PEBRASSOLA_OLD_IMAGE_BYTES(32) == 928);
+SETTLED(windows, PEBRASSOLA_WINDOW == 128);
 SETTLED(frames, PEBRASSOLA_FRAME_BYTES == 8 && PEBRASSOLA_LAST_TICK == 4000000000u);
 SETTLED(outputs, PEBRASSOLA_RECORD_BYTES == 12 && PEBRASSOLA_OUT_BYTES == 192);
 
@@ -67,10 +69,11 @@ SETTLED(records, PEBRASSOLA_PROVED_RECORDS(1) == 7 && PEBRASSOLA_PROVED_RECORDS(
 /* bytes 0 and 1 of a frame, as one number: kind and flag (A2) */
 enum { INIT = 0x0100, ECHO = 0x0200, ECHO_ANSWER = 0x0201 };
 
-enum { MOST_IMAGE = 928 };
+/* bytes of the greatest image, of the story's, and of a controller's that is alone */
+enum { MOST_IMAGE = 1440, STORY_IMAGE = 208, ALONE_IMAGE = 76 };
 
 static uint8_t image[MOST_IMAGE], out[192];
-static size_t size = 144, room = sizeof out; /* how much of the two is lent; the story's nodes have 144 bytes */
+static size_t size = STORY_IMAGE, room = sizeof out; /* how much of the two is lent */
 static unsigned answers, wrong;
 
 static void expect(const char *call, uint32_t number, uint32_t value, uint32_t known, uint32_t known_value)
@@ -96,6 +99,14 @@ static void expect_bytes(const char *call, size_t from, const uint8_t *known, si
     if (memcmp(out + from, known, length) == 0) return;
     wrong++;
     printf("%s: the output from byte %u on is not what the papers say\n", call, (unsigned)from);
+}
+
+static void expect_image(const char *call, size_t from, const uint8_t *known, size_t length)
+{
+    answers++;
+    if (memcmp(image + from, known, length) == 0) return;
+    wrong++;
+    printf("%s: the image from byte %u on is not what the papers say\n", call, (unsigned)from);
 }
 
 static void put_frame(uint8_t *frame, unsigned head, uint32_t tick)
@@ -171,6 +182,36 @@ static void story(void)
     read_clock("W9 read", 0, 5);
 }
 
+/* W10 as A8 works it again: from what W9 leaves, 22 sends one echo more, and this is its row then. Its init set is {1} since W6 */
+static void row_of_22(const char *call, uint32_t tick, uint64_t known_high, uint64_t known_low)
+{
+    uint8_t row[44] = {0, 0, 0, 22};
+    deliver(call, 22, ECHO, tick, 0, 0);
+    put4(row + 4, tick);
+    put4(row + 8, (uint32_t)(known_high >> 32));
+    put4(row + 12, (uint32_t)known_high);
+    put4(row + 16, (uint32_t)(known_low >> 32));
+    put4(row + 20, (uint32_t)known_low);
+    put4(row + 24, 1);
+    put4(row + 40, 1);
+    expect_image(call, 32 + 44, row, sizeof row);
+    read_clock(call, 0, 5);
+}
+
+static void windows(void)
+{
+    uint8_t w9[STORY_IMAGE];
+    memcpy(w9, image, sizeof w9);
+    /* of 6, 5, 4 and 0 all stay: they lie 63, 64, 65 and 69 below */
+    row_of_22("W10, echo 69", 69, 0x23, 0x8000000000000007u);
+    memcpy(image, w9, sizeof w9);
+    /* 6 lies 127 below, 5 and the others more */
+    row_of_22("W10, echo 133", 133, 0x8000000000000000u, 7);
+    memcpy(image, w9, sizeof w9);
+    row_of_22("W10, echo 134", 134, 0, 7);
+    memcpy(image, w9, sizeof w9);
+}
+
 /* 01, "Numbers given back", on the image that W9 leaves; the calls of the story have 0 and 12 */
 static void refusals(void)
 {
@@ -180,11 +221,13 @@ static void refusals(void)
     boot("own serial 0", 7, 0, 3);
     boot("11 twice", 15, 11, 4);
     boot("own serial 12", 7, 12, 5);
-    size = 143;
-    boot("image of 143 bytes", 0, 4, 6);
-    try_deliver("image of 143 bytes", 22, ECHO, 1, 8);
-    read_clock("image of 143 bytes", 8, 0);
+    size = STORY_IMAGE - 1;
+    boot("an image a byte too short", 0, 4, 6);
+    try_deliver("an image a byte too short", 22, ECHO, 1, 8);
+    read_clock("an image a byte too short", 8, 0);
     size = 144;
+    boot("an image as long as it was before A8", 0, 4, 6);
+    size = STORY_IMAGE;
     room = 191;
     boot("output of 191 bytes", 0, 4, 7);
     try_deliver("output of 191 bytes", 22, ECHO, 1, 7);
@@ -220,7 +263,7 @@ static void flags(void)
 
 /* two controllers that are up, and the frames under way between them */
 static const uint32_t serials[2] = {11, 22};
-static uint8_t images[2][144];
+static uint8_t images[2][STORY_IMAGE];
 static struct {
     unsigned from, to;
     uint8_t frame[8];
@@ -343,9 +386,9 @@ static void sheets(void)
     pack("an entry of pack 0", 7, 0, 9, 15, 0);
     pack("9 twice", 7, 9, 9, 15, 0);
     pack("first 21, end 20", 11, 21, 9, 16, 0);
-    size = 143;
-    pack("image of 143 bytes", 0, 0, 7, 8, 0);
-    size = 144;
+    size = STORY_IMAGE - 1;
+    pack("an image a byte too short", 0, 0, 7, 8, 0);
+    size = STORY_IMAGE;
     memset(out, 0xEE, sizeof out);
     write_sheet("23 bytes of entries", 0, 0, 23, 14);
     write_sheet("7 twice", 3, 7, 24, 15);
@@ -469,12 +512,179 @@ static void full_faults_of_images(void)
     read_clock("an image of 7 with f = 2", 0, 10);
     pack("an image of 7 with f = 2", 0, 0, 7, 0, PEBRASSOLA_IN_FORCE);
     deliver("an image of 7 with f = 2", 7, ECHO, 1, 0, 0);
-    size = 144;
+    size = STORY_IMAGE;
+}
+
+/* ---- A8 */
+
+/* bytes of the story's image before A8, and of a controller's that is alone */
+enum { OLD_STORY_IMAGE = 144, OLD_ALONE_IMAGE = 60 };
+
+/* an image of n controllers that has sent echo k, in the old form or, where its mark is 1, in the new one; nothing is held */
+static void put_header(uint8_t *b, unsigned mark, unsigned n, unsigned f, unsigned mode, uint32_t own, uint32_t k)
+{
+    unsigned bytes = 32 + (mark ? 44 : 28) * n;
+    memset(b, 0, bytes);
+    put4(b, n << 24 | f << 16 | mode << 8 | mark);
+    put4(b + 4, own);
+    put4(b + 8, k);
+    put4(b + 12, k);
+    put4(b + 16, 32u << 16 | bytes);
+}
+
+/* a serial and its two sets; a mask has 8 bytes in the old form and 8 zeros before them in the new one */
+static void put_row(uint8_t *b, unsigned mark, unsigned i, uint32_t serial, uint32_t echo, uint64_t echoes, uint32_t init, uint64_t inits)
+{
+    unsigned zeros = mark ? 8 : 0;
+    uint8_t *row = b + 32 + (28 + 2 * zeros) * i, *behind = row + 16 + zeros;
+    put4(row, serial);
+    put4(row + 4, echo);
+    put4(row + 8 + zeros, (uint32_t)(echoes >> 32));
+    put4(row + 12 + zeros, (uint32_t)echoes);
+    put4(behind, init);
+    put4(behind + 4 + zeros, (uint32_t)(inits >> 32));
+    put4(behind + 8 + zeros, (uint32_t)inits);
+}
+
+/* what W9 leaves: 11 holds echo 0, 22 echo 6, 5, 4 and 0, 33 echo 5, 4, 3 and 0, 44 echo 4 to 0; 11 and 22 hold init 1 */
+static void put_w9(uint8_t *b, unsigned mark)
+{
+    put_header(b, mark, 4, 1, 1, 11, 5);
+    put_row(b, mark, 0, 11, 0, 1, 1, 1);
+    put_row(b, mark, 1, 22, 6, 0x47, 1, 1);
+    put_row(b, mark, 2, 33, 5, 0x27, 0, 0);
+    put_row(b, mark, 3, 44, 4, 0x1F, 0, 0);
+}
+
+/* a controller that is alone at tick 9 and has sent echo 8; echo 10 is held, and init 63 and 0, as far apart as an old set can have them */
+static void put_wide(uint8_t *b, unsigned mark)
+{
+    put_header(b, mark, 1, 0, 1, 7, 9);
+    put4(b + 12, 8);
+    put_row(b, mark, 0, 7, 10, 1, 63, 0x8000000000000001u);
+}
+
+/* converts into the image buffer, where bytes behind have to stay; `known` is the new image, or NULL with the number of a refusal */
+static void convert(const char *call, const uint8_t *old, size_t length, uint32_t number, const uint8_t *known, size_t known_length)
+{
+    struct pebrassola_written w;
+    memset(image, 0xEE, sizeof image);
+    keep_bytes();
+    w = pebrassola_convert(old, length, image, size);
+    expect(call, w.number, w.written, number, (uint32_t)known_length);
+    if (known) memcpy(image_before, known, known_length);
+    expect_image(call, 0, image_before, sizeof image);
+}
+
+static void refuse(const char *call, const uint8_t *old, size_t length, uint32_t number)
+{
+    convert(call, old, length, number, NULL, 0);
+}
+
+/* the old image of W9 with one byte set */
+static void refuse_w9(const char *call, unsigned at, unsigned byte)
+{
+    uint8_t old[OLD_STORY_IMAGE];
+    put_w9(old, 0);
+    old[at] = (uint8_t)byte;
+    refuse(call, old, sizeof old, 8);
+}
+
+static void old_images(void)
+{
+    static const uint8_t fresh[OLD_ALONE_IMAGE + 3] = {[0] = 1, [7] = 7, [17] = 32, [19] = 60, [35] = 7, [60] = 0xEE, [62] = 1};
+    static const uint8_t made[ALONE_IMAGE] = {[0] = 1, [3] = 1, [7] = 7, [17] = 32, [19] = 76, [35] = 7};
+    uint8_t old[OLD_ALONE_IMAGE], new[ALONE_IMAGE];
+    size = MOST_IMAGE;
+    convert("a fresh one", fresh, OLD_ALONE_IMAGE, 0, made, sizeof made);
+    convert("a fresh one with bytes behind", fresh, sizeof fresh, 0, made, sizeof made);
+    put_wide(old, 0);
+    put_wide(new, 1);
+    convert("ticks 63 apart", old, sizeof old, 0, new, sizeof new);
+    size = ALONE_IMAGE;
+    convert("room for the image alone", old, sizeof old, 0, new, sizeof new);
+    size = ALONE_IMAGE - 1;
+    refuse("a byte of room too little", old, sizeof old, 6);
+    size = 0;
+    refuse("no room", old, sizeof old, 6);
+    old[3] = 1;
+    refuse("byte 3 is 1, and no room", old, sizeof old, 8);
+    refuse("nothing, and no room", NULL, 0, 8);
+    size = MOST_IMAGE;
+    refuse("byte 3 is 1", old, sizeof old, 8);
+    refuse("nothing", NULL, 0, 8);
+    refuse("a new image", new, sizeof new, 8);
+    new[3] = 0;
+    refuse("a new image with byte 3 of an old one", new, sizeof new, 8);
+}
+
+/* seven controllers of which nothing is held, with the f that A7 asks and with less */
+static void old_faults(void)
+{
+    uint8_t old[228], new[340];
+    put_header(old, 0, 7, 2, 1, 7, 10);
+    put_header(new, 1, 7, 2, 1, 7, 10);
+    for (unsigned i = 0; i < 7; i++) {
+        put_row(old, 0, i, i + 1, 0, 0, 0, 0);
+        put_row(new, 1, i, i + 1, 0, 0, 0, 0);
+    }
+    convert("f = 2 of 7", old, sizeof old, 0, new, sizeof new);
+    old[1] = 1;
+    refuse("f = 1 of 7", old, sizeof old, 8);
+}
+
+/* each of these differs from the old image of W9 in one byte, and is not sound by another of document 01's conditions */
+static void unsound_old_images(void)
+{
+    uint8_t old[OLD_STORY_IMAGE];
+    put_w9(old, 0);
+    refuse("an old image that is cut", old, sizeof old - 1, 8);
+    refuse_w9("n = 3", 0, 3);
+    refuse_w9("f = 0 of 4", 1, 0);
+    refuse_w9("mode 2", 2, 2);
+    refuse_w9("byte 3 is 2", 3, 2);
+    refuse_w9("own serial 12", 7, 12);
+    refuse_w9("offset 33", 17, 33);
+    refuse_w9("the size of a new image", 19, 208);
+    refuse_w9("byte 31", 31, 1);
+    refuse_w9("22 twice", 35, 22);
+    refuse_w9("last echo 6", 15, 6);
+    refuse_w9("bit 7 of top 6", 75, 0xC7);
+    refuse_w9("bit 63 of top 6", 68, 0x80);
+    refuse_w9("bit 0 clear", 75, 0x46);
+    refuse_w9("top 1 of an empty set", 107, 1);
+    refuse_w9("echo 5 unsent", 15, 4); /* R2 could fire, as 22 and 33 hold echo 5 */
+    refuse_w9("passive", 2, 0);        /* R5: 11 and 22 hold init 1 */
+}
+
+/* the converted image of W9 is the one that W9 leaves, and lives on; the old one is refused by the calls of a node */
+static void converted_story(void)
+{
+    static const uint8_t marks[] = {0, 2, 3, 128, 255};
+    uint8_t old[OLD_STORY_IMAGE], known[STORY_IMAGE];
+    put_w9(old, 0);
+    put_w9(known, 1);
+    size = STORY_IMAGE;
+    memcpy(image, old, sizeof old);
+    read_clock("an old image", 8, 0);
+    try_deliver("an old image", 22, ECHO, 69, 8);
+    pack("an old image", 0, 0, 7, 8, 0);
+    story();
+    expect_image("W9", 0, known, sizeof known);
+    convert("W9", old, sizeof old, 0, known, sizeof known);
+    windows();
+    for (unsigned i = 0; i < sizeof marks; i++) {
+        image[3] = marks[i];
+        read_clock("another byte 3", 8, 0);
+        try_deliver("another byte 3", 22, ECHO, 69, 8);
+        pack("another byte 3", 0, 0, 7, 8, 0);
+    }
 }
 
 int main(void)
 {
     story();
+    windows();
     refusals();
     flags();
     idle();
@@ -483,6 +693,10 @@ int main(void)
     sheets();
     full_faults();
     full_faults_of_images();
+    old_images();
+    old_faults();
+    unsound_old_images();
+    converted_story();
     printf("header: %u answers, %u wrong\n", answers, wrong);
     return wrong != 0;
 }

@@ -51,21 +51,22 @@ SHEETS = {
 }
 
 
-def written(state, evidence):
-    data = bytearray(node.HEADER + node.ROW * state.n)
-    node.write_image(state, evidence, data)
-    return bytes(data)
-
-
-def silent(count, active):
+def silent(count, active, layout=node.NEW):
     """An image of so many controllers from which nothing was heard."""
+    data = bytearray(layout.size(count))
     nothing = {serial: {node.ECHO: set(), node.INIT: set()} for serial in range(1, count + 1)}
-    return written(node.Node(count, (count - 1) // 3, 1, active, CLOCK, CLOCK), nothing)
+    node.write_image(node.Node(count, (count - 1) // 3, 1, active, CLOCK, CLOCK), nothing, data, layout)
+    return bytes(data)
 
 
 def stating(f, data):
     """The same image with another f."""
     return data[:1] + bytes([f]) + data[2:]
+
+
+def marked(mark, data):
+    """The same image with another byte 3."""
+    return data[:3] + bytes([mark]) + data[4:]
 
 
 # each with the number and the clock that read gives
@@ -79,13 +80,20 @@ IMAGES = {
     "empty": (b"", (8, 0)),
     "short": (ACTIVE[:31], (8, 0)),
     "cut": (ACTIVE[:-1], (8, 0)),
-    "byte-3": (ACTIVE[:3] + b"\2" + ACTIVE[4:], (8, 0)),
+    "byte-3-0": (marked(0, ACTIVE), (8, 0)),
+    "byte-3-2": (marked(2, ACTIVE), (8, 0)),
+    "byte-3-255": (marked(255, ACTIVE), (8, 0)),
+    # from before A8, active and passive
+    "old": (image(node.OLD), (8, 0)),
+    "old-and-more": (image(node.OLD) + bytes(2000), (8, 0)),
+    "old-longest": (silent(32, True, node.OLD), (8, 0)),
+    "old-passive": (silent(4, False, node.OLD), (8, 0)),
     "f-1-of-7": (stating(1, silent(7, True)), (8, 0)),
     "f-0-of-7": (stating(0, silent(7, True)), (8, 0)),
     "f-3-of-7": (stating(3, silent(7, True)), (8, 0)),
     "f-9-of-32": (stating(9, silent(32, True)), (8, 0)),
     "f-1-of-7-passive": (stating(1, silent(7, False)), (8, 0)),
-    "size-929": (ACTIVE[:18] + (929).to_bytes(2, "big") + ACTIVE[20:] + bytes(2000), (8, 0)),
+    "size-1441": (ACTIVE[:18] + (1441).to_bytes(2, "big") + ACTIVE[20:] + bytes(2000), (8, 0)),
 }
 
 

@@ -1,28 +1,29 @@
 #!/usr/bin/env python3
-"""The edges of document 01 on fields, forms, frames, sets of ticks and rows, with the flag of request A2 and the full f of A7, from the
-papers alone: forms and frames are bytes made of their fields, a set of ticks is a Python set of ints. CASES has the cases; this writes
-what the program `edges` is given, and what it must print.
+"""The edges of document 01 on fields, forms, frames, masks, sets of ticks and rows, with the flag of request A2, the full f of A7 and the
+window of A8, from the papers alone: forms and frames are bytes made of their fields, a mask is an int, a set of ticks is a Python set of
+ints. CASES has the cases; this writes what the program `edges` is given, and what it must print.
 
 usage: tests/model/edges.py stdin > crates/edges/stdin
        tests/model/edges.py stdout > crates/edges/stdout"""
 import sys
 
-WINDOW, LAST, INIT, ECHO = 64, 4_000_000_000, 1, 2
+WINDOW, LAST, INIT, ECHO = 128, 4_000_000_000, 1, 2
+MASK, HALF = WINDOW // 8, 64                                                           # bytes of a mask, bits of each of its two words
 BROADCAST, ANSWER = 0, 1                                                               # byte 1 of a frame
 
 # ---- the input: for each case a head, the label and the bytes that the call is given
 
 CALLS = ["half", "word", "long", "form", "serial", "frame", "write form", "write frame", "none", "after", "holds", "proper", "rows", "row",
-         "holders", "greatest"]                                                       # numbered from 0
+         "holders", "greatest", "store", "bit", "word at", "below", "up", "cut", "mark"]   # numbered from 0
 WORDS = ["room", "count", "serial", "kind", "flag", "tick", "last", "top"]             # of a head, 0 where a call has no use for one
 
 
-def case(call, label, answer, data=b"", value=0, **words):
+def case(call, label, answer, data=b"", value=0, mask=0, **words):
     """A case: what the program is given for it, and its line."""
     assert set(words) <= set(WORDS)
     text = label.encode()
     head = word(CALLS.index(call), 2) + word(len(text), 2) + word(len(data))
-    head += b"".join(word(words.get(name, 0)) for name in WORDS) + word(value, 8)
+    head += b"".join(word(words.get(name, 0)) for name in WORDS) + word(value, 8) + word(mask, MASK)
     return head + text + data, " ".join([label, *map(str, answer)]) + "\n"
 
 
@@ -119,6 +120,51 @@ def write_frame(label, kind, tick, room, flag=BROADCAST):
     return case("write frame", f"write frame {label}:", answer, room=room, kind=kind, flag=flag, tick=tick, last=LAST)
 
 
+# ---- masks: a number of 128 bits, in two words of the program. A line shows one as 32 digits in hex
+
+def show_mask(call, mask, place, answer):
+    return case(call, f"{call} {place} of {mask:#x}:", [answer], mask=mask, count=place)
+
+
+def digits(mask):
+    return f"{mask:0{2 * MASK}x}"
+
+
+def store(mask):
+    """Stored behind one byte, and read back."""
+    return case("store", f"store {mask:#x}:", [(b"\xee" + word(mask, MASK) + b"\xee").hex(), digits(mask)], mask=mask)
+
+
+def bit(mask, i):
+    return show_mask("bit", mask, i, mask >> i & 1)
+
+
+def word_at(mask, i):
+    return show_mask("word at", mask, i, (mask >> i) % 2**HALF)
+
+
+def below(mask, k):
+    return show_mask("below", mask, k, "yes" if mask < 2**k else "no")
+
+
+def up(mask, d):
+    return show_mask("up", mask, d, digits((mask << d) % 2**WINDOW))
+
+
+def cut(mask, w):
+    return show_mask("cut", mask, w, digits(mask % 2**w))
+
+
+def mark(mask, d):
+    return show_mask("mark", mask, d, digits(mask | 1 << d))
+
+
+FULL = 2**WINDOW - 1
+ENDS = 1 << 127 | 1 << 64 | 1 << 63 | 1                                                # the outer bits of both words
+MIXED = 0xFEDCBA9876543210_0123456789ABCDEF
+PLACES = [0, 1, 62, 63, 64, 65, 126, 127]
+
+
 # ---- sets of ticks (01, "Evidence")
 
 def after(ticks, kind, j):
@@ -132,6 +178,11 @@ def image(ticks):
     return top, sum(1 << (top - t) for t in ticks)
 
 
+def shown(ticks):
+    top, mask = image(ticks)
+    return [top, digits(mask)]
+
+
 def proper(top, mask):
     """Whether top and mask are those of some set that an image may hold."""
     if mask == 0:
@@ -142,21 +193,22 @@ def proper(top, mask):
 
 def show_after(label, ticks, kind, tick):
     top, mask = image(ticks)
-    return case("after", label + ":", image(after(ticks, kind, tick)), top=top, value=mask, kind=kind, tick=tick)
+    return case("after", label + ":", shown(after(ticks, kind, tick)), top=top, mask=mask, kind=kind, tick=tick)
 
 
 def show_holds(label, ticks, tick):
     top, mask = image(ticks)
-    return case("holds", f"{label} holds {tick}:", [int(tick in ticks)], top=top, value=mask, tick=tick)
+    return case("holds", f"{label} holds {tick}:", [int(tick in ticks)], top=top, mask=mask, tick=tick)
 
 
 def show_proper(top, mask):
-    return case("proper", f"proper: {top} {mask}", ["yes" if proper(top, mask) else "no"], top=top, value=mask)
+    return case("proper", f"proper: {top} {mask:#x}", ["yes" if proper(top, mask) else "no"], top=top, mask=mask)
 
 
-HUNDRED, WIDE = {100}, {37, 100}
+HUNDRED, HIGH, WIDE = {100}, {200}, {73, 136, 137, 200}
 SIX = after(after(set(), ECHO, 0), ECHO, 6)
-assert after(SIX, ECHO, 69) == {69, 68, 67, 6} and after(SIX, ECHO, 70) == {70, 69, 68}      # W10
+assert after(SIX, ECHO, 69) == {69, 68, 67, 6, 5, 4, 0}                                       # W10, as A8 works it again
+assert after(SIX, ECHO, 133) == {133, 132, 131, 6} and after(SIX, ECHO, 134) == {134, 133, 132}
 
 
 # ---- rows: a dictionary of the serials, in the form's order
@@ -174,7 +226,7 @@ def rows(held):
     for serial, of in held.items():
         b += word(serial)
         for top, mask in image(of[ECHO]), image(of[INIT]):
-            b += word(top) + word(mask, 8)
+            b += word(top) + word(mask, MASK)
     return b
 
 
@@ -198,18 +250,24 @@ def show_holders(held, kind, tick):
     return case("holders", f"holders of {NAMES[kind]}: {tick}", [holders(held, kind, tick)], rows(held), kind=kind, tick=tick)
 
 
-def show_greatest(held, kind, m, low):
+def show_greatest(held, kind, m, low, where=""):
     some = {t for of in held.values() for t in of[kind] if t >= low and holders(held, kind, t) >= m}
     answer = max(some, default=-1) + 1                                                # as tick + 1, 0 for none
-    return case("greatest", f"greatest {NAMES[kind]}: {m} {low}", [answer], rows(held), kind=kind, count=m, value=low)
+    return case("greatest", f"greatest {NAMES[kind]}{where}: {m} {low}", [answer], rows(held), kind=kind, count=m, value=low)
 
 
 W8 = [(11, ECHO, 0), (22, ECHO, 0), (33, ECHO, 0), (11, INIT, 1), (22, INIT, 1), (44, ECHO, 1), (33, ECHO, 5), (22, ECHO, 6)]
 AGAIN = W8 + [(22, INIT, 1)]
 STRANGER = AGAIN + [(99, ECHO, 5)]
-LEAP = STRANGER + [(22, ECHO, 69)]
+LEAPS = {tick: STRANGER + [(22, ECHO, tick)] for tick in (69, 133, 134)}
 HELD = credited(W8)                                                                   # W2 to W8
 assert [of[ECHO] for of in HELD.values()] == [{0}, {6, 5, 4, 0}, {5, 4, 3, 0}, {1, 0}]
+
+
+def apart(one, other, low=0):
+    """The greatest tick that two hold: 11 and 44 hold init 1,000, which lies so far below the top of one and of the other."""
+    held = credited([(11, INIT, 1000), (11, INIT, 1000 + one), (44, INIT, 1000), (44, INIT, 1000 + other), (22, INIT, 5000)])
+    return show_greatest(held, INIT, 2, low, f", {one} and {other} below")
 
 
 # ---- the cases
@@ -342,30 +400,44 @@ CASES = [
     write_frame("echo flag 2 into 7", ECHO, 5, 7, 2),
     write_frame("answer with a late tick into 7", ECHO, LAST + 1, 7, ANSWER),
     write_frame("answer into 9", ECHO, 16909060, 9, ANSWER),
-    # from {100}: the old tick lies 62, 63, 64 and 65 below the new one. From the empty set the top 0 is no tick
+    # masks: each place about the end of a word
+    *(store(mask) for mask in (0, 1, ENDS, MIXED, FULL)),
+    *(bit(mask, place) for mask in (ENDS, FULL - ENDS) for place in PLACES),
+    *(word_at(mask, place) for mask in (MIXED, FULL) for place in PLACES),
+    *(below(1 << place, bits) for place in (0, 62, 63, 64, 126, 127) for bits in (place, place + 1)),
+    *(below(mask, bits) for mask, bits in [(0, 0), (0, 64), (2**64 - 1, 63), (2**64 - 1, 64), (2**64, 64), (FULL, 64), (FULL, 127),
+                                           (FULL, 128)]),
+    *(up(mask, place) for mask in (1, MIXED, FULL) for place in PLACES if place > 0),
+    *(cut(FULL, place) for place in [*PLACES, 128]),
+    *(cut(MIXED, place) for place in (0, 4, 64, 68, 128)),
+    *(mark(mask, place) for mask in (0, ENDS, FULL) for place in PLACES),
+    # from {100}: the old tick lies 62 to 65 and 126 to 129 below the new one. From the empty set the top 0 is no tick
     show_after("init 100", set(), INIT, 100),
-    *(show_after(f"init 100, init {tick}", HUNDRED, INIT, tick) for tick in (162, 163, 164, 165, LAST)),
-    show_after(f"init 100, echo {LAST}", HUNDRED, ECHO, LAST),
+    *(show_after(f"init 100, init {tick}", HUNDRED, INIT, tick) for tick in (162, 163, 164, 165, 226, 227, 228, 229, LAST)),
+    *(show_after(f"init 100, echo {tick}", HUNDRED, ECHO, tick) for tick in (163, 164, 165, 166, 227, 228, 229, 230, LAST)),
     show_after("init 5", set(), INIT, 5),
+    # ticks of both words that go up by less than a word, a word, and more
+    *(show_after(f"{{73, 136, 137, 200}}, init {tick}", WIDE, INIT, tick) for tick in (201, 262, 263, 264, 265, 326, 327, 328)),
     # W10, from the set that W8 leaves
     show_after("echo 0, echo 6", {0}, ECHO, 6),
-    show_after("echo 0, echo 6, echo 69", SIX, ECHO, 69),
-    show_after("echo 0, echo 6, echo 70", SIX, ECHO, 70),
+    *(show_after(f"echo 0, echo 6, echo {tick}", SIX, ECHO, tick) for tick in (69, 70, 133, 134)),
     show_after("echo 6, echo 0", {6, 5, 4}, ECHO, 0),
     # ticks below 0 are none
-    case("none", "none:", image(set())),
+    case("none", "none:", shown(set())),
     *(show_after(f"echo {tick}", set(), ECHO, tick) for tick in (0, 1, 2)),
     show_after("init 0", set(), INIT, 0),
-    # the window of {100} reaches down to 37
-    *(show_after(f"init 100, echo {tick}", HUNDRED, ECHO, tick) for tick in (39, 38, 37, 36)),
-    *(show_after(f"init 100, init {tick}", HUNDRED, INIT, tick) for tick in (37, 36)),
-    show_after("init 100 twice", HUNDRED, INIT, 100),
-    *(show_holds("{37, 100}", WIDE, tick) for tick in (36, 37, 38, 100, 101)),
+    # the window of {200} reaches down to 73; its first word to 137
+    *(show_after(f"init 200, echo {tick}", HIGH, ECHO, tick) for tick in (139, 138, 137, 136, 75, 74, 73, 72)),
+    *(show_after(f"init 200, init {tick}", HIGH, INIT, tick) for tick in (137, 136, 73, 72)),
+    show_after("init 200 twice", HIGH, INIT, 200),
+    *(show_holds("{73, 136, 137, 200}", WIDE, tick) for tick in (72, 73, 74, 135, 136, 137, 138, 199, 200, 201)),
     show_holds("{}", set(), 0),
     show_holds("{0}", {0}, 0),
     # sets as an image may hold them
-    *(show_proper(top, mask) for top, mask in [(0, 0), (1, 0), (0, 1), (0, 3), (5, 2), (5, 63), (5, 64), (5, 65), (62, 2**63 + 1),
-                                               (63, 2**63 + 1), (2**32 - 1, 2**64 - 1)]),
+    *(show_proper(top, mask) for top, mask in [(0, 0), (1, 0), (0, 1), (0, 3), (5, 2), (5, 63), (5, 64), (5, 65), (5, 2**64),
+                                               (5, 2**64 + 1), (126, FULL), (127, FULL), (2**32 - 1, 2**64 - 1), (2**32 - 1, FULL),
+                                               (2**32 - 1, FULL - 1)]),
+    *(show_proper(top, 2**place + 1) for place in (62, 63, 64, 65, 126, 127) for top in (place - 1, place)),
     show_rows("rows", []),
     show_rows("rows after W8", W8),
     *(show_row(HELD, serial) for serial in (11, 22, 33, 44, 99)),
@@ -375,11 +447,15 @@ CASES = [
     *(show_greatest(HELD, INIT, m, low) for m, low in [(1, 0), (2, 1), (3, 0)]),
     show_rows("rows after 22 init 1 again", AGAIN),
     show_rows("rows after 99 echo 5", STRANGER),
-    show_rows("rows after 22 echo 69", LEAP),
-    *(show_holders(credited(LEAP), ECHO, tick) for tick in (6, 5)),
+    *(show_rows(f"rows after 22 echo {tick}", events) for tick, events in LEAPS.items()),
+    *(show_holders(credited(LEAPS[133]), ECHO, tick) for tick in (6, 5)),
+    # one tick that two hold, in either word of each
+    *(apart(one, other) for one in (0, 63, 64, 65, 126, 127, 128) for other in (0, 100)),
+    *(apart(127, 64, low) for low in (1000, 1001)),
 ]
 
 if sys.argv[1:] not in (["stdin"], ["stdout"]):
     sys.exit(__doc__)
+assert sum(len(given) for given, _ in CASES) < 65536                                  # what the program reads
 for given, line in CASES:
     sys.stdout.buffer.write(given if sys.argv[1] == "stdin" else line.encode())

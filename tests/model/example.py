@@ -15,8 +15,8 @@ def form(own):
     return bytes([4, 1, 0, 8]) + b"".join(s.to_bytes(4, "big") for s in [own] + SERIALS)
 
 
-def run():
-    """Runs the truck; gives the log and the images of the controllers that are up."""
+def run(layout=node.NEW):
+    """Runs the truck; gives the log and the images of the controllers that are up. With the old layout they are as they were before A8."""
     rng = random.Random(11)
     images, wire, log = {}, [], []
 
@@ -28,8 +28,8 @@ def run():
                 wire.append((sender, serial, record[4:]))
 
     def boot(serial):
-        images[serial], out = bytearray(node.HEADER + 4 * node.ROW), bytearray(node.ROOM)
-        _, records, _ = node.boot(form(serial), images[serial], out)
+        images[serial], out = bytearray(layout.size(4)), bytearray(node.ROOM)
+        _, records, _ = node.boot(form(serial), images[serial], out, layout)
         send(serial, out, records)
 
     for step in range(240):  # so many that the clocks are at tick 4, which the entries of packs.py go by
@@ -49,7 +49,7 @@ def run():
         if dest == 11:
             log.append(sender.to_bytes(4, "big") + frame)
         out = bytearray(node.ROOM)
-        _, records, _ = node.deliver(images[dest], sender, frame, out)
+        _, records, _ = node.deliver(images[dest], sender, frame, out, layout)
         send(dest, out, records)
     head = b"".join(x.to_bytes(4, "big") for x in [len(log), 12, 12 + len(form(11))])
     return head + form(11) + b"".join(log), images

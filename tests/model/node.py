@@ -1,20 +1,35 @@
 #!/usr/bin/env python3
-"""Document 01 in Python, with A2's flag, A6's count of firings and A7's full f, written from the papers alone and sharing nothing with
-the Rattle crates: evidence is a set of numbers for each serial and kind, and the rules are tried as the paper lists them.
+"""Document 01 in Python, with A2's flag, A6's count of firings, A7's full f and A8's longer window, written from the papers alone and
+sharing nothing with the Rattle crates: evidence is a set of numbers for each serial and kind, and the rules are tried as the paper lists
+them.
 
 usage: node.py < LOG      prints the listing of a log
 
-boot, deliver and read work on byte buffers as the calls for C do; a bytearray that they are handed is the lent buffer."""
+boot, deliver, read and convert work on byte buffers as the calls for C do; a bytearray that they are handed is the lent buffer. The first
+three take a layout, too, so that a node can be had as it was before A8."""
 import sys
 from collections import Counter, namedtuple
 
 LAST = 4_000_000_000  # the last tick
-WINDOW = 64
 ROOM = 192  # bytes of output that boot and deliver ask
 INIT, ECHO = 1, 2
 BROADCAST, ANSWER = 0, 1  # byte 1 of a frame, its flag
 FLAGS = {INIT: {BROADCAST}, ECHO: {BROADCAST, ANSWER}}  # those that each kind may have
-HEADER, ROW = 32, 28
+HEADER = 32
+
+
+class Layout(namedtuple("Layout", "mark window")):
+    """The form of an image: byte 3, and how many ticks a window has. A mask has a bit for each of them."""
+
+    mask = property(lambda self: self.window // 8)
+    row = property(lambda self: 4 + 2 * (4 + self.mask))
+
+    def size(self, n):
+        return HEADER + self.row * n
+
+
+OLD, NEW = Layout(mark=0, window=64), Layout(mark=1, window=128)  # before A8, and since
+assert (OLD.mask, OLD.row, OLD.size(32), NEW.mask, NEW.row, NEW.size(32)) == (8, 28, 928, 16, 44, 1440)
 
 Node = namedtuple("Node", "n f own active k last")  # last: the last echo sent
 
@@ -73,7 +88,7 @@ def write_records(records, out):
 def read_set(data):
     """The set of a top and a mask, or 8 where a sound image can't hold them."""
     top, mask = number(data[:4]), number(data[4:])
-    bits = [i for i in range(WINDOW) if mask >> i & 1]
+    bits = [i for i in range(8 * len(data[4:])) if mask >> i & 1]
     refuse_if(top > LAST, 8)
     refuse_if(mask != 0 and 0 not in bits, 8)
     refuse_if(mask == 0 and top != 0, 8)
@@ -81,35 +96,40 @@ def read_set(data):
     return {top - i for i in bits}
 
 
-def write_set(held):
+def write_set(held, layout):
     top = max(held, default=0)
-    return top.to_bytes(4, "big") + sum(1 << (top - t) for t in held).to_bytes(8, "big")
+    return top.to_bytes(4, "big") + sum(1 << (top - t) for t in held).to_bytes(layout.mask, "big")
 
 
-def read_image(image):
-    """The node and its evidence, a dict from serial to a dict from kind to a set of ticks; 8 unless the image is sound."""
+def read_row(row, layout):
+    """The serial of a row and its evidence, a dict from kind to a set of ticks."""
+    echo, init = 4, 8 + layout.mask
+    return number(row[:echo]), {ECHO: read_set(row[echo:init]), INIT: read_set(row[init:])}
+
+
+def read_image(image, layout=NEW):
+    """The node and its evidence, a dict from serial to what its row has; 8 unless the image is sound."""
     refuse_if(len(image) < HEADER or len(image) < number(image[18:20]), 8)
     n, f, mode = image[0], image[1], image[2]
     own, k, last = (number(image[at : at + 4]) for at in (4, 8, 12))
-    refuse_if(image[3] != 0 or any(image[20:32]) or mode > 1 or not last <= k <= LAST, 8)
-    refuse_if(number(image[16:18]) != HEADER or number(image[18:20]) != HEADER + ROW * n, 8)
-    rows = [image[at : at + ROW] for at in range(HEADER, HEADER + ROW * n, ROW)]
-    serials = [number(row[:4]) for row in rows]
+    refuse_if(image[3] != layout.mark or any(image[20:32]) or mode > 1 or not last <= k <= LAST, 8)
+    refuse_if(number(image[16:18]) != HEADER or number(image[18:20]) != layout.size(n), 8)
+    rows = [read_row(image[at : at + layout.row], layout) for at in range(HEADER, layout.size(n), layout.row)]
     try:
-        check_roster(n, f, own, serials)
+        check_roster(n, f, own, [serial for serial, _ in rows])
     except Refused:
         raise Refused(8)
-    evidence = {s: {ECHO: read_set(row[4:16]), INIT: read_set(row[16:28])} for s, row in zip(serials, rows)}
+    evidence = dict(rows)
     node = Node(n, f, own, mode == 1, k, last)
     refuse_if(next_firing(node, evidence) is not None, 8)
     return node, evidence
 
 
-def write_image(node, evidence, image):
-    header = bytes([node.n, node.f, node.active, 0])
+def write_image(node, evidence, image, layout=NEW):
+    header = bytes([node.n, node.f, node.active, layout.mark])
     header += b"".join(x.to_bytes(4, "big") for x in (node.own, node.k, node.last))
-    header += HEADER.to_bytes(2, "big") + (HEADER + ROW * node.n).to_bytes(2, "big") + bytes(12)
-    rows = (s.to_bytes(4, "big") + write_set(sets[ECHO]) + write_set(sets[INIT]) for s, sets in evidence.items())
+    header += HEADER.to_bytes(2, "big") + layout.size(node.n).to_bytes(2, "big") + bytes(12)
+    rows = (s.to_bytes(4, "big") + b"".join(write_set(sets[kind], layout) for kind in (ECHO, INIT)) for s, sets in evidence.items())
     data = header + b"".join(rows)
     image[: len(data)] = data
 
@@ -117,11 +137,11 @@ def write_image(node, evidence, image):
 # One delivery
 
 
-def credit(evidence, serial, kind, j):
+def credit(evidence, serial, kind, j, window):
     """Adds a frame to the evidence of a serial, and cuts the set to the window."""
     held = evidence[serial][kind]
     held |= {t for t in (j, j - 1, j - 2) if t >= 0} if kind == ECHO else {j}
-    evidence[serial][kind] = {t for t in held if max(held) - t <= WINDOW - 1}
+    evidence[serial][kind] = {t for t in held if max(held) - t <= window - 1}
 
 
 def holders(evidence, kind):
@@ -155,10 +175,10 @@ def next_firing(node, evidence):
     return None
 
 
-def step(node, evidence, port, kind, flag, tick):
+def step(node, evidence, window, port, kind, flag, tick):
     """One delivery: the node that follows, its records and how many times a rule fired, with a record or without; the evidence is
     changed in place. A broadcast of echo 0 by another serial is answered, an answer never; evidence and rules do not know the flag."""
-    credit(evidence, port, kind, tick)
+    credit(evidence, port, kind, tick, window)
     asks = (kind, flag, tick) == (ECHO, BROADCAST, 0) and port != node.own
     records = [(port, ECHO, ANSWER, node.last)] if asks else []
     fired = 0
@@ -169,40 +189,51 @@ def step(node, evidence, port, kind, flag, tick):
     return node, records, fired
 
 
-# The calls: boot and deliver give number, records and rules fired, read gives number and clock
+# The calls: boot and deliver give number, records and rules fired, read gives number and clock, convert number and bytes written
 
 
-def boot(form, image, out):
+def boot(form, image, out, layout=NEW):
     try:
         n, f, own, serials = read_form(form)
-        refuse_if(len(image) < HEADER + ROW * n, 6)
+        refuse_if(len(image) < layout.size(n), 6)
         refuse_if(len(out) < ROOM, 7)
     except Refused as why:
         return why.args[0], 0, 0
-    write_image(Node(n, f, own, False, 0, 0), {s: {ECHO: set(), INIT: set()} for s in serials}, image)
+    write_image(Node(n, f, own, False, 0, 0), {s: {ECHO: set(), INIT: set()} for s in serials}, image, layout)
     return 0, write_records([broadcast(ECHO, 0)], out), 0
 
 
-def deliver(image, port, frame, out):
+def deliver(image, port, frame, out, layout=NEW):
     try:
         refuse_if(len(out) < ROOM, 7)
-        node, evidence = read_image(image)
+        node, evidence = read_image(image, layout)
         refuse_if(port not in evidence, 9)
         kind, flag, tick = read_frame(frame)
     except Refused as why:
         return why.args[0], 0, 0
-    node, records, fired = step(node, evidence, port, kind, flag, tick)
-    write_image(node, evidence, image)
+    node, records, fired = step(node, evidence, layout.window, port, kind, flag, tick)
+    write_image(node, evidence, image, layout)
     return 0, write_records(records, out), fired
 
 
-def read(image):
+def read(image, layout=NEW):
     try:
-        node, _ = read_image(image)
+        node, _ = read_image(image, layout)
         refuse_if(not node.active, 12)
     except Refused as why:
         return why.args[0], 0
     return 0, node.k
+
+
+def convert(old, image):
+    """The same node and the same evidence, read in the old layout and written in the new one."""
+    try:
+        node, evidence = read_image(old, OLD)
+        refuse_if(len(image) < NEW.size(node.n), 6)
+    except Refused as why:
+        return why.args[0], 0
+    write_image(node, evidence, image, NEW)
+    return 0, NEW.size(node.n)
 
 
 # The log program
@@ -222,7 +253,7 @@ def listing(log):
         form, events = read_log(log)
     except Refused as why:
         return f"0 {why.args[0]} 0 0 p\n"
-    image, out = bytearray(HEADER + ROW * 32), bytearray(ROOM)
+    image, out = bytearray(NEW.size(32)), bytearray(ROOM)
     lines = []
     for i in range(len(events) + 1):
         given, records, _ = boot(form, image, out) if i == 0 else deliver(image, number(events[i - 1][:4]), events[i - 1][4:], out)

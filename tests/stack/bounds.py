@@ -7,8 +7,9 @@ without moving it: they count whether they are written or not.
 
 What this does not cover is refused, with the reason: a function that comes back to itself, a call through a pointer or out of the file,
 a stack pointer that moves by what is no number or stands at two depths at one place, code in no section of its own, a line of the
-listing that is not known. It trusts the compiler in two things: that an address taken of a local variable is used inside that variable,
-and that a jump by a table reads one of the table's own entries.
+listing that is not known. It trusts the compiler in three things: that an address taken of a local variable is used inside that variable,
+that a jump by a table reads one of the table's own entries, and that a called function leaves the six registers as they were that the
+convention has it keep.
 
 usage: bounds.py FILE
 """
@@ -31,6 +32,14 @@ TABLE = re.compile(r'RELOCATION RECORDS FOR \[(.+)\]:$')
 ENTRY = re.compile(r'([0-9a-f]+) (R_\S+) +(.+?)(?:\+0x([0-9a-f]+))?$')
 
 REGISTER = r'%r(?:[a-d]x|[sd]i|bp|8|9|1[0-5])'  # of 64 bits
+# the registers that a called function keeps, by each name that a part of one has; and operations that write none of these but the one
+# that is their last operand
+KEPT = {part: '%r' + name for name, parts in {'bx': 'rbx ebx bx bl bh', 'bp': 'rbp ebp bp bpl'}.items() for part in parts.split()}
+KEPT |= {f'r{n}{part}': f'%r{n}' for n in range(12, 16) for part in ('', 'd', 'w', 'b')}
+WRITES_LAST = re.compile(r'(mov|lea|add|sub|adc|sbb|and|or|xor|not|neg|inc|dec|shl|shr|sar|rol|ror|shld|shrd|imul|mul|div|cmp|test|push|pop)'
+                         r'[bwlq]?|mov[sz][bwl][wlq]|set\w+|cmov\w+|call|j\w+|nop[wlq]?|mov[au]p[sd]|movdq[au]|xorp[sd]|pxor')
+LAST_OPERAND = re.compile(r'(?:.*,)?%(\w+)')
+
 STACK_POINTER = re.compile(r'(?<!\()%rsp\b|%(?:esp|spl?)\b')
 MOVED = re.compile(r'(sub|add) \$0x([0-9a-f]+),%rsp')
 UNKNOWN = re.compile(r'(push|pop)([afw]| %(?!r)| %r\d+[bdw])|enter|leave|loop|xbegin|l(call|jmp|ret)|iret|ret\w')
@@ -139,6 +148,7 @@ class Way:
         self.places = {instruction.address: place for place, instruction in enumerate(instructions)}
         self.depths = {}
         self.todo = [(0, SLOT)]
+        self.starts_held = None
 
     def follow(self):
         while self.todo:
@@ -153,9 +163,16 @@ class Way:
                 raise Refused(f'{self.name}: the entry at {at:x} of its table leads to no instruction')
             yield self.places[entry - (at - start)]
 
+    def start_named(self, place):
+        """The register in which an instruction puts the start of a table of this function."""
+        instruction = self.instructions[place]
+        named_in = re.fullmatch(rf'lea 0x0\(%rip\),({REGISTER})', instruction.text)
+        return named_in[1] if named_in and instruction.leads_to == '.rodata.' + self.name else None
+
     def jumps_by_table(self, place):
         """Whether a jump to an address goes by a table of this function: its start is named, an entry is read, and the start is added to
-        it. Moves between other registers may stand behind that. No jump leads into the middle of it."""
+        it. Moves between other registers may stand behind that. No jump leads into the middle of it. The start may have been named
+        before, in a register that is kept, as long as it was on every way that leads here."""
         if not (to := re.fullmatch(rf'jmp \*({REGISTER})', self.instructions[place].text)):
             return False
         add = place - 1
@@ -163,15 +180,48 @@ class Way:
             add -= 1
         if add < 2:
             return False
-        start, read = self.instructions[add - 2 : add]
         if not (added := re.fullmatch(rf'add ({REGISTER}),{to[1]}', self.instructions[add].text)) or added[1] == to[1]:
             return False
-        return (
-            start.text == f'lea 0x0(%rip),{added[1]}'
-            and start.leads_to == '.rodata.' + self.name
-            and bool(re.fullmatch(rf'movslq \({added[1]},{REGISTER},4\),{to[1]}', read.text))
-            and not any(add - 1 <= entered <= place for entered in self.jumped_to())
-        )
+        if not re.fullmatch(rf'movslq (?:0x0)?\({added[1]},{REGISTER},4\),{to[1]}', self.instructions[add - 1].text):
+            return False
+        begins = add if added[1] in self.held()[add - 1] else add - 1 if self.start_named(add - 2) == added[1] else None
+        return begins is not None and not any(begins <= entered <= place for entered in self.jumped_to())
+
+    def held(self):
+        """The kept registers that hold the start of a table, for each place: whichever way led there, it was named and not written
+        since."""
+        if self.starts_held is None:
+            self.starts_held = {0: frozenset()}
+            todo = [0]
+            while todo:
+                place = todo.pop()
+                after = self.held_after(place, self.starts_held[place])
+                for to in self.places_after(place):
+                    met = after & self.starts_held.get(to, after)
+                    if self.starts_held.get(to) != met:
+                        self.starts_held[to] = met
+                        todo.append(to)
+        return self.starts_held
+
+    def held_after(self, place, before):
+        instruction = self.instructions[place]
+        if not WRITES_LAST.fullmatch(instruction.operation):
+            return frozenset()
+        last = LAST_OPERAND.fullmatch(instruction.operands)
+        written = KEPT.get(last[1]) if last else None
+        return before - {written} | ({written} if written and self.start_named(place) == written else frozenset())
+
+    def places_after(self, place):
+        """The places in this function that may come after one, as far as jumps by a table stay inside."""
+        instruction = self.instructions[place]
+        after = [] if instruction.operation in ('ret', 'ud2', 'jmp') or place + 1 == len(self.instructions) else [place + 1]
+        if not instruction.operation.startswith('j'):
+            return after
+        if instruction.operands.startswith('*'):
+            return after + list(self.table_places())
+        to = re.match(r'([0-9a-f]+) <', instruction.operands)
+        inside = not instruction.leads_to and to and int(to[1], 16) in self.places
+        return after + ([self.places[int(to[1], 16)]] if inside else [0] if named(instruction.leads_to or '') == self.name else [])
 
     def jumped_to(self):
         """Where jumps inside the function lead."""

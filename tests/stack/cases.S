@@ -9,7 +9,13 @@ FUNCTION(pebrassola_case)
 #if defined KNOWN /* 8 + 8 + 64 to the call, 8 + 8 + 128 below it; and 8 + 128 of a second one, which has no type */
     push %rbx
     sub $64, %rsp
+    lea .Lkept(%rip), %rbx /* the start of a table that is used in a loop, and kept over a call */
+.Lagain:
     call helper
+    movslq (%rbx, %rax, 4), %rax
+    add %rbx, %rax
+    jmp *%rax
+.Lby_kept:
     lea .Ltable(%rip), %rcx
     movslq (%rcx, %rax, 4), %rax
     add %rcx, %rax
@@ -22,6 +28,9 @@ FUNCTION(pebrassola_case)
     .section .rodata.pebrassola_case, "a", @progbits
 .Ltable:
     .long .Lby_table - .Ltable
+.Lkept:
+    .long .Lagain - .Lkept
+    .long .Lby_kept - .Lkept
 LOCAL(helper)
     push %rbx
     mov %rdi, -128(%rsp)
@@ -82,6 +91,84 @@ LOCAL(other)
     lea .Ltable(%rip), %rcx
     movslq (%rsi, %rax, 4), %rax
     add %rsi, %rax
+    jmp *%rax
+.Lby_table:
+    ret
+    .section .rodata.pebrassola_case, "a", @progbits
+.Ltable:
+    .long .Lby_table - .Ltable
+#elif defined START_NOT_KEPT
+    lea .Ltable(%rip), %rcx
+    call other
+    movslq (%rcx, %rax, 4), %rax
+    add %rcx, %rax
+    jmp *%rax
+.Lby_table:
+    ret
+    .section .rodata.pebrassola_case, "a", @progbits
+.Ltable:
+    .long .Lby_table - .Ltable
+LOCAL(other)
+    mov %rsi, %rcx
+    ret
+#elif defined START_WRITTEN
+    lea .Ltable(%rip), %rbx
+    call other
+    mov %esi, %ebx
+    movslq (%rbx, %rax, 4), %rax
+    add %rbx, %rax
+    jmp *%rax
+.Lby_table:
+    ret
+    .section .rodata.pebrassola_case, "a", @progbits
+.Ltable:
+    .long .Lby_table - .Ltable
+LOCAL(other)
+    ret
+#elif defined START_EXCHANGED
+    lea .Ltable(%rip), %rbx
+    xchg %rbx, (%rsi)
+    movslq (%rbx, %rax, 4), %rax
+    add %rbx, %rax
+    jmp *%rax
+.Lby_table:
+    ret
+    .section .rodata.pebrassola_case, "a", @progbits
+.Ltable:
+    .long .Lby_table - .Ltable
+#elif defined START_NOT_NAMED_ON_ONE_WAY
+    test %rdi, %rdi
+    je .Lunnamed
+    lea .Ltable(%rip), %rbx
+.Lunnamed:
+    test %rsi, %rsi
+    movslq (%rbx, %rax, 4), %rax
+    add %rbx, %rax
+    jmp *%rax
+.Lby_table:
+    ret
+    .section .rodata.pebrassola_case, "a", @progbits
+.Ltable:
+    .long .Lby_table - .Ltable
+#elif defined START_WRITTEN_BEHIND_A_TABLE
+    lea .Ltable(%rip), %rbx
+.Lagain:
+    movslq (%rbx, %rax, 4), %rax
+    add %rbx, %rax
+    jmp *%rax
+.Lby_table:
+    mov %rsi, %rbx
+    jmp .Lagain
+    .section .rodata.pebrassola_case, "a", @progbits
+.Ltable:
+    .long .Lby_table - .Ltable
+#elif defined JUMP_PAST_A_KEPT_START
+    lea .Ltable(%rip), %rbx
+    test %rdi, %rdi
+    je .Lpast
+    movslq (%rbx, %rax, 4), %rax
+.Lpast:
+    add %rbx, %rax
     jmp *%rax
 .Lby_table:
     ret

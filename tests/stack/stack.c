@@ -1,7 +1,8 @@
 /*
- * The deepest stack of each exported call, by painting the stack that it runs on: over a recorded run, on the dearest images that we know
- * and on a full sheet, at n = 4, 7 and 32. Reads what the code of each call takes at most for any input (bounds.py), prints both beside
- * what the header says, and holds them to one another, to 2 KiB and to less than an unpacked image takes (02, A3).
+ * The deepest stack of each exported call, by painting the stack that it runs on: over a recorded run, on the dearest images that we know,
+ * on old images, on images that are not sound and on a full sheet, at n = 4, 7 and 32. Reads what the code of each call takes at most for
+ * any input (bounds.py), prints both beside what the header says, and holds them to one another, to 2 KiB and to less than an unpacked
+ * image takes (02, A3).
  */
 #define _XOPEN_SOURCE 600
 #include <stdio.h>
@@ -11,7 +12,7 @@
 #include "../../bench/inputs.h"
 
 #if !PEBRASSOLA_BOOT_STACK_BYTES || !PEBRASSOLA_DELIVER_STACK_BYTES || !PEBRASSOLA_READ_STACK_BYTES || \
-    !PEBRASSOLA_PACK_STACK_BYTES || !PEBRASSOLA_WRITE_SHEET_STACK_BYTES || !PEBRASSOLA_STACK_BYTES
+    !PEBRASSOLA_PACK_STACK_BYTES || !PEBRASSOLA_WRITE_SHEET_STACK_BYTES || !PEBRASSOLA_CONVERT_STACK_BYTES || !PEBRASSOLA_STACK_BYTES
 #error "a figure of the stack is no number that the preprocessor can budget with"
 #endif
 
@@ -25,6 +26,7 @@ struct calls {
     struct pebrassola_reading (*read)(const uint8_t *, size_t);
     struct pebrassola_licence (*pack)(const uint8_t *, size_t, uint32_t, const uint8_t *, size_t);
     struct pebrassola_written (*write_sheet)(const uint8_t *, size_t, uint8_t *, size_t);
+    struct pebrassola_written (*convert)(const uint8_t *, size_t, uint8_t *, size_t);
 };
 
 static uint8_t *volatile caller;
@@ -66,10 +68,17 @@ static struct pebrassola_written note_write_sheet(const uint8_t *entries, size_t
     NOTE_CALLER();
     return (struct pebrassola_written){0, 0};
 }
+
+static struct pebrassola_written note_convert(const uint8_t *old, size_t old_length, uint8_t *image, size_t image_length)
+{
+    NOTE_CALLER();
+    return (struct pebrassola_written){0, 0};
+}
 #pragma GCC diagnostic pop
 
-static const struct calls exported = {pebrassola_boot, pebrassola_deliver, pebrassola_read, pebrassola_pack, pebrassola_write_sheet};
-static const struct calls noting = {note_boot, note_deliver, note_read, note_pack, note_write_sheet};
+static const struct calls exported = {pebrassola_boot, pebrassola_deliver,     pebrassola_read,
+                                      pebrassola_pack, pebrassola_write_sheet, pebrassola_convert};
+static const struct calls noting = {note_boot, note_deliver, note_read, note_pack, note_write_sheet, note_convert};
 
 /* ---- one call with what is lent to it, by whichever of the two */
 
@@ -80,6 +89,7 @@ static unsigned n;
 static uint32_t pack;
 static struct event event;
 static uint8_t form[PEBRASSOLA_FORM_BYTES(MOST)], image[PEBRASSOLA_IMAGE_BYTES(MOST)], out[PEBRASSOLA_OUT_BYTES], made[sizeof shuffled];
+static uint8_t old[PEBRASSOLA_OLD_IMAGE_BYTES(MOST)];
 
 static void boot_once(void)
 {
@@ -106,9 +116,14 @@ static void write_sheet_once(void)
     number = by->write_sheet(shuffled + 4, sizeof shuffled - 4, made, sizeof made).number;
 }
 
+static void convert_once(void)
+{
+    number = by->convert(old, PEBRASSOLA_OLD_IMAGE_BYTES(n), image, PEBRASSOLA_IMAGE_BYTES(n)).number;
+}
+
 /* ---- painting */
 
-enum { BOOT, DELIVER, READ, PACK, WRITE_SHEET, ROWS };
+enum { BOOT, DELIVER, READ, PACK, WRITE_SHEET, CONVERT, ROWS };
 
 static struct row {
     const char *name;
@@ -120,6 +135,7 @@ static struct row {
     {"pebrassola_read", read_once, PEBRASSOLA_READ_STACK_BYTES, 0, {0}},
     {"pebrassola_pack", pack_once, PEBRASSOLA_PACK_STACK_BYTES, 0, {0}},
     {"pebrassola_write_sheet", write_sheet_once, PEBRASSOLA_WRITE_SHEET_STACK_BYTES, 0, {0}},
+    {"pebrassola_convert", convert_once, PEBRASSOLA_CONVERT_STACK_BYTES, 0, {0}},
 };
 
 /* each call runs on two stacks of its own, since the lowest byte that it writes may have the colour of one */
@@ -163,6 +179,18 @@ static void call_with_image(int asks)
     call(DELIVER, PEBRASSOLA_DONE);
 }
 
+/* a rule that can fire is looked for to its end, and only in an image that is refused for it */
+static void call_unsettled(void)
+{
+    boot(n, 0, image);
+    unsettle(n, 0, image);
+    call(READ, PEBRASSOLA_IMAGE);
+    call(PACK, PEBRASSOLA_IMAGE);
+    call(DELIVER, PEBRASSOLA_IMAGE);
+    unsettle(n, 1, old);
+    call(CONVERT, PEBRASSOLA_IMAGE);
+}
+
 static void call_all(void)
 {
     make_sheets(PEBRASSOLA_MOST_ENTRIES);
@@ -181,6 +209,11 @@ static void call_all(void)
     }
     make_asking(n, image);
     call(PACK, PEBRASSOLA_DONE);
+    for (int dear = 1; dear >= 0; dear--) {
+        make_old(n, dear, old);
+        call(CONVERT, PEBRASSOLA_DONE);
+    }
+    call_unsettled();
 }
 
 static void measure(unsigned s)

@@ -25,6 +25,12 @@ struct pebrassola_reading pebrassola_read(const uint8_t *image, size_t image_len
     return (struct pebrassola_reading){r.number, r.value};
 }
 
+struct pebrassola_written pebrassola_convert(const uint8_t *old, size_t old_length, uint8_t *image, size_t image_length)
+{
+    struct model_result r = model_convert(old, old_length, image, image_length);
+    return (struct pebrassola_written){r.number, r.value};
+}
+
 struct pebrassola_licence pebrassola_pack(const uint8_t *sheet, size_t sheet_length, uint32_t pack, const uint8_t *image,
                                           size_t image_length)
 {

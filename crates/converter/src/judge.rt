@@ -13,11 +13,11 @@ use node::layout::HEADER;
 use rules::node::Node;
 use sets::ticks::Ticks;
 ghost use mathlib.Core.Path.{_≡_};
-ghost use Prim.Native.Nat.{_+_, _≤_, _<_};
+ghost use Prim.Native.Nat.{_+_, _*_, _≤_, _<_, _^_};
 ghost use lib.Dec.{ltb};
 ghost use lib.ListN.{length};
-ghost use Rattle.sets.specs.Sets.{heldBy};
-ghost use Rattle.evidence.specs.Rows.{setSize, rowSize, setPlace, properRows};
+ghost use Rattle.sets.specs.Sets.{maskBy, heldBy};
+ghost use Rattle.evidence.specs.Rows.{setSize, rowSize, setPlace, rowsAt, properRows};
 ghost use Rattle.evidence.specs.Holders.{holders, bestOf, greatest};
 ghost use Rattle.rules.specs.Describe.{window, lastTick};
 ghost use Rattle.rules.specs.Rules.{canR3, jumpTo, wakeAt, firstRule, atRest};
@@ -36,14 +36,14 @@ fn old_place(kind: u32) -> usize
     }
 }
 
-// How many of the n old rows hold (kind, t).
-fn count_old(old: &[u8], n: usize, kind: u32, t: u32) -> usize
-    requires { ⌜ imageSize oldLayout n ≤ length (now old) ⌝ }
-    ensures { λ r. ⌜ (r ≡ holders window kind t (oldRows n (now (old .entry)))) × (r ≤ n) ⌝ }
+// How many of the n old rows from i on hold (kind, t).
+fn count_old(old: &[u8], i: usize, n: usize, kind: u32, t: u32) -> usize
+    requires { ⌜ i + n * rowSize (oldLayout .masks) ≤ length (now old) ⌝ }
+    ensures { λ r. ⌜ (r ≡ holders window kind t (rowsAt (oldLayout .masks) n (now (old .entry)) i)) × (r ≤ n) ⌝ }
 {
     let place = old_place(kind);
     let mut found: usize = 0;
-    let mut at = HEADER;
+    let mut at = i;
     let mut left = n;
     while 0 < left {
         found += read_old_set(old, at + place).holds(Node::WINDOW, t) as usize;
@@ -53,31 +53,32 @@ fn count_old(old: &[u8], n: usize, kind: u32, t: u32) -> usize
     found
 }
 
-// The greatest tick of one set s, as tick + 1, that is at least low and that m of the n old rows hold; 0 for none.
-fn find_shared(old: &[u8], n: usize, kind: u32, m: usize, s: Ticks, low: u64) -> u64
-    requires { ⌜ imageSize oldLayout n ≤ length (now old) ⌝ }
-    ensures { λ r. ⌜ r ≡ bestOf window kind m low (oldRows n (now (old .entry))) (heldBy s) ⌝ }
+// The greatest tick of one old set s, as tick + 1, that is at least low and that m of the n old rows from i on hold; 0 for none. An old
+// mask is one word. It is halved at each tick, so that its lowest bit is that of the tick in hand; once it is 0, the set holds no more.
+fn find_shared(old: &[u8], i: usize, n: usize, kind: u32, m: usize, s: Ticks, low: u64) -> u64
+    requires { ⌜ (i + n * rowSize (oldLayout .masks) ≤ length (now old)) × (maskBy (s .mask) < 2 ^ oldLayout .window) ⌝ }
+    ensures { λ r. ⌜ r ≡ bestOf window kind m low (rowsAt (oldLayout .masks) n (now (old .entry)) i) (heldBy s) ⌝ }
 {
+    let mask = s.mask;
+    let mut rest = mask.word_at(0);
     let mut x = s.top as u64 + 1;
-    let mut left = Node::WINDOW;
-    while 0 < left {
+    while 0 < rest {
         if x <= low {
             return 0;
         }
-        let t = (x - 1) as u32;
-        if s.holds(Node::WINDOW, t) == 1 {
-            if m <= count_old(old, n, kind, t) {
+        if rest % 2 == 1 {
+            if m <= count_old(old, i, n, kind, (x - 1) as u32) {
                 return x;
             }
         }
+        rest /= 2;
         x -= 1;
-        left -= 1;
     }
     0
 }
 
 // Whether there is a tick of a kind, at least low, that m of the n old rows hold. The last m - 1 rows alone are too few for one, so it is
-// enough to look at the sets of those before.
+// enough to look at the sets of those before. What the set of a row holds is settled with that row, so a search counts only the rows left.
 fn is_any_shared(old: &[u8], n: usize, kind: u32, m: usize, low: u64) -> bool
     requires { ⌜ (imageSize oldLayout n ≤ length (now old)) × (0 < m) ⌝ }
     ensures { λ r. ⌜ r ≡ ltb 0 (greatest window kind m low (oldRows n (now (old .entry)))) ⌝ }
@@ -86,7 +87,7 @@ fn is_any_shared(old: &[u8], n: usize, kind: u32, m: usize, low: u64) -> bool
     let mut at = HEADER;
     let mut left = n;
     while m <= left {
-        let best = find_shared(old, n, kind, m, read_old_set(old, at + place), low);
+        let best = find_shared(old, at, left, kind, m, read_old_set(old, at + place), low);
         if 0 < best {
             return true;
         }
@@ -128,11 +129,11 @@ fn can_echo(old: &[u8], node: Node) -> bool
     let f = node.faults as usize;
     let enough = f + 1;
     if node.sent < k {
-        let inits = count_old(old, n, INIT, k);
+        let inits = count_old(old, HEADER, n, INIT, k);
         if enough <= inits {
             return true;
         }
-        let echoes = count_old(old, n, ECHO, k);
+        let echoes = count_old(old, HEADER, n, ECHO, k);
         if enough <= echoes {
             return true;
         }
@@ -149,7 +150,7 @@ fn can_tick(old: &[u8], node: Node) -> bool
     let k = node.tick;
     let enough = n - node.faults as usize;
     if k < Node::LAST_TICK {
-        return enough <= count_old(old, n, ECHO, k);
+        return enough <= count_old(old, HEADER, n, ECHO, k);
     }
     false
 }

@@ -12,17 +12,16 @@ use Rattle.evidence.specs.Rows.{rowSize, setPlace, setAt, rowsAt}
 use Rattle.evidence.proofs.Columns.{holders-down, holders-end}
 use Rattle.rules.specs.Describe.{window}
 use Rattle.node.specs.Layout.{oldLayout}
-use Rattle.converter.specs.Old.{oldRows}
 use Rattle.converter.proofs.judge.count_old.Statement.{statement}
 use Rattle.converter.proofs.judge.count_old.Tie as tie
 
 abbrev Inv-loop : tie.InvT-loop
-Inv-loop old n kind t place found₀ at₀ left₀ found at left =
-    (found + holders window kind t (rowsAt (oldLayout .masks) left old at) ≡ holders window kind t (oldRows n old))
+Inv-loop old i n kind t place found₀ at₀ left₀ found at left =
+    (found + holders window kind t (rowsAt (oldLayout .masks) left old at) ≡ holders window kind t (rowsAt (oldLayout .masks) n old i))
     × (at + left * rowSize (oldLayout .masks) ≤ length old) × (found + left ≤ n)
 
 abbrev μ-loop : tie.MeasureT-loop
-μ-loop old n kind t place found₀ at₀ left₀ found at left = left
+μ-loop old i n kind t place found₀ at₀ left₀ found at left = left
 
 old-place-requires : tie.Need-old-place-requires Inv-loop μ-loop
 old-place-requires c κs = search needs

@@ -10,6 +10,9 @@ use native.Mathlib.Decide.{decLt, ℕ-discrete}
 use native.Mathlib.Omega.{arith}
 use lib.Pow.{pow-pos, pow-mono, pow-lt, mod-mod-pow, shl-lt}
 use lib.Arith.{mod-mul}
+use lib.Bits.{bitAnd, bitXor, differ, xor-step, xor-self, xor-add-and}
+use lib.Dec.{eqb}
+use borrow.Author.Tests.{eq-eqb, ne-eqb}
 use Rattle.sets.specs.Ticks.{bit, raised, marked}
 
 pub bit-zero : (m : ℕ) → bit m 0 ≡ m % 2
@@ -168,6 +171,30 @@ cut-wide n w x p = ap (λ (k : ℕ). x % 2 ^ k % 2 ^ w) whole ∙ mod-mod-pow x 
   where
     whole : n ≡ n - w + w
     whole = omega arith
+
+-- x ^ (x - 1) is 1 where x is odd, and more where it is even
+pub odd-alone : (x : ℕ) → 0 < x → eqb (bitXor x (x - 1)) 1 ≡ eqb (x % 2) 1
+odd-alone x p = go (x % 2) refl
+  where
+    go : (r : ℕ) → x % 2 ≡ r → eqb (bitXor x (x - 1)) 1 ≡ eqb (x % 2) 1
+    go zero e =
+        let below : (x - 1) % 2 ≡ 1 = omega arith in
+        let less : (x - 1) / 2 ≡ x / 2 - 1 = omega arith in
+        let half = bitXor (x / 2) ((x - 1) / 2) in
+        let both = bitAnd (x / 2) ((x - 1) / 2) in
+        let sum = xor-add-and (x / 2) ((x - 1) / 2) in
+        let step = xor-step x (x - 1) ∙ ap₂ (λ (a b : ℕ). half * 2 + differ a b) e below in
+        -- were it 1, the halves, of which one is one more, would add up to an even number
+        let more : bitXor x (x - 1) ≡ 1 → ⊥ =
+        λ q. elim (decLt both (x / 2)) [ yes l ↦ omega (arith, sum, step, less) | no l ↦ omega (arith, sum, step, less) ] in
+        ne-eqb (bitXor x (x - 1)) 1 more ∙ sym (ne-eqb (x % 2) 1 (λ q. omega arith))
+    go (suc r) e =
+        let odd : x % 2 ≡ 1 = omega arith in
+        let below : (x - 1) % 2 ≡ 0 = omega arith in
+        let same : (x - 1) / 2 ≡ x / 2 = omega arith in
+        let half = ap (bitXor (x / 2)) same ∙ xor-self (x / 2) in
+        let step = xor-step x (x - 1) ∙ ap₂ (λ (a b : ℕ). bitXor (x / 2) ((x - 1) / 2) * 2 + differ a b) odd below in
+        eq-eqb (bitXor x (x - 1)) 1 (omega (arith, step, half)) ∙ sym (eq-eqb (x % 2) 1 odd)
 
 -- n has n bits at most
 under-power : (n : ℕ) → n < 2 ^ n

@@ -97,6 +97,17 @@ impl Mask {
         if self.high == 0 { self.low == 0 } else { false }
     }
 
+    // Whether bit 0 is set. x ^ (x - 1) has the lowest bit that is set in x, and those below it. Asked so, the word is read at once: for
+    // low % 2 the compiler reads the last byte by itself, and then the other seven one by one.
+    pub fn is_odd(self) -> bool
+        ensures { λ r. ⌜ r ≡ eqb (maskBy self % 2) 1 ⌝ }
+    {
+        if self.low == 0 {
+            return false;
+        }
+        (self.low ^ (self.low - 1)) == 1
+    }
+
     // Bit i.
     pub fn bit(self, i: u32) -> u32
         requires { ⌜ i < maskBits ⌝ }

@@ -115,9 +115,9 @@ impl Ticks {
         if mask.is_empty() {
             return top == 0;
         }
-        if mask.bit(0) != 1 {
-            return false;
+        if mask.is_odd() {
+            return mask.is_below(reach(w, top));
         }
-        mask.is_below(reach(w, top))
+        false
     }
 }

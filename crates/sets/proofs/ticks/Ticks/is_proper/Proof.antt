@@ -2,11 +2,10 @@
 -- Assumes nothing.
 use borrow.Author.Needs.{needs}
 use mathlib.Core.Path.{sym, ap, _∙_}
-use Prim.Native.Nat.{ℕ, _^_}
+use Prim.Native.Nat.{ℕ, _%_, _^_}
 use borrow.Author.Tests.{eqb-true, eqb-false}
 use lib.Dec.{ltb}
 use Rattle.sets.specs.Sets.{maskBy, heldBy}
-use Rattle.sets.proofs.Masks.{bit-zero}
 use Rattle.sets.proofs.Members.{proper-empty, proper-even, proper-odd}
 use Rattle.sets.proofs.ticks.Ticks.is_proper.Statement.{statement}
 use Rattle.sets.proofs.ticks.Ticks.is_proper.Tie as tie
@@ -20,16 +19,8 @@ returns c =
     let none = eqb-true (maskBy (a .self .mask)) 0 (sym (c .before .is-empty .ensures) ∙ c .if1 .taken) in
     sym (proper-empty (a .w) (heldBy (a .self)) none)
 
-returns-2 : tie.Need-returns-2
-returns-2 c =
-    let a = c .before .before .before .before .before .args in
-    let none = c .before .before .before .is-empty .ensures in
-    let some = eqb-false (maskBy (a .self .mask)) 0 (sym none ∙ c .before .before .if1 .left) in
-    let low = c .before .bit .ensures .0 ∙ bit-zero (maskBy (a .self .mask)) in
-    sym (proper-even (a .w) (heldBy (a .self)) some (λ e. c .if2 .taken (low ∙ e)))
-
-bit-requires : tie.Need-bit-requires
-bit-requires c κs = search needs
+is-odd-requires : tie.Need-is-odd-requires
+is-odd-requires c κs = search needs
 
 reach-requires : tie.Need-reach-requires
 reach-requires c κs = search needs
@@ -37,16 +28,24 @@ reach-requires c κs = search needs
 is-below-requires : tie.Need-is-below-requires
 is-below-requires c κs = search needs
 
-returns-3 : tie.Need-returns-3
-returns-3 c =
+returns-2 : tie.Need-returns-2
+returns-2 c =
     let a = c .before .before .before .before .before .before .before .args in
     let none = c .before .before .before .before .before .is-empty .ensures in
     let some = eqb-false (maskBy (a .self .mask)) 0 (sym none ∙ c .before .before .before .before .if1 .left) in
-    let low = c .before .before .before .bit .ensures .0 ∙ bit-zero (maskBy (a .self .mask)) in
+    let odd = eqb-true (maskBy (a .self .mask) % 2) 1 (sym (c .before .before .before .is-odd .ensures) ∙ c .before .before .if2 .taken) in
     c .is-below .ensures ∙ ap (λ (k : ℕ). ltb (maskBy (a .self .mask)) (2 ^ k)) (c .before .reach .ensures)
-    ∙ sym (proper-odd (a .w) (heldBy (a .self)) some (sym low ∙ c .before .before .if2 .left))
+    ∙ sym (proper-odd (a .w) (heldBy (a .self)) some odd)
+
+returns-3 : tie.Need-returns-3
+returns-3 c =
+    let a = c .before .before .before .before .before .args in
+    let none = c .before .before .before .is-empty .ensures in
+    let some = eqb-false (maskBy (a .self .mask)) 0 (sym none ∙ c .before .before .if1 .left) in
+    let even = eqb-false (maskBy (a .self .mask) % 2) 1 (sym (c .before .is-odd .ensures) ∙ c .if2 .left) in
+    sym (proper-even (a .w) (heldBy (a .self)) some even)
 
 pub is-proper-spec : {M : Type 1} → statement M
 is-proper-spec =
     tie.close
-    (tie.spec is-empty-requires returns bit-requires returns-2 reach-requires is-below-requires returns-3)
+    (tie.spec is-empty-requires returns is-odd-requires reach-requires is-below-requires returns-2 returns-3)

@@ -1,16 +1,17 @@
--- Laws of counts: what a count of those that pass a test means; of a column of words its counts and its pairs line by line, and a column
--- that ascends, of which no number stands twice.
+-- Laws of counts: what a count of those that pass a test means; of a column of words its counts and its pairs line by line, the buckets
+-- by which pairs are looked for, and a column that ascends, of which no number stands twice.
 -- Assumes nothing.
-use mathlib.Core.Path.{_≡_, refl, sym, ap, _∙_}
+use mathlib.Core.Path.{_≡_, refl, sym, ap, ap₂, subst, _∙_}
 use mathlib.Core.List.{List, [], _∷_, List·Memᴰ, List·Memᴰ·head, List·Memᴰ·tail}
 use mathlib.Core.Bool.{Bool, true, false, cond, _&&_, and-eq-true-iff}
 use Prim.Native.Nat.{ℕ, zero, suc, _+_, _-_, _≤_, _<_}
 use native.Mathlib.Omega.{arith}
 use lib.Dec.{ltb, eqb}
-use lib.ListN.{length}
+use lib.ListN.{length, getD, set}
+use lib.Seq.{getD-set-same, getD-set-other}
 use borrow.Author.Tests.{lt-ltb, le-ltb, ltb-true, eqb-true, eq-eqb, ne-eqb}
 use Rattle.fields.specs.Field.{field, words}
-use Rattle.forms.specs.Column.{howMany, count, twins, ascends}
+use Rattle.forms.specs.Column.{howMany, count, twins, ascends, buckets, bucketOf}
 use Rattle.fields.proofs.Words.{words-step, words-end}
 
 -- ---- how many pass a test
@@ -61,11 +62,56 @@ pub twins-end : (n s : ℕ) (b : List ℕ) (i : ℕ) → n ≤ 0 → twins (word
 unfolding twins
 twins-end n s b i p = ap twins (words-end n s b i p)
 
--- the first line, which holds x, makes a twin of each line behind it that holds x
-pub twins-step : (n s : ℕ) (b : List ℕ) (i x : ℕ) → 0 < n → x ≡ field 4 b i →
-    twins (words n s b i) ≡ count x (words (n - 1) s b (i + s)) + twins (words (n - 1) s b (i + s))
-unfolding twins
-twins-step n s b i x p e = rw e (ap twins (words-step n s b i p))
+-- ---- buckets met: a number whose bucket is not marked is not among those met
+
+abbrev pub Met : List ℕ → List ℕ → Type 0
+Met marks l = (x : ℕ) → getD marks (bucketOf x) 0 ≡ 0 → count x l ≡ 0
+
+pub met-none : (marks : List ℕ) → Met marks []
+unfolding count
+met-none marks x e = refl
+
+bucket-lt : (x : ℕ) → bucketOf x < buckets
+unfolding bucketOf
+bucket-lt x = omega arith
+
+-- one more is met, and its bucket marked
+pub met-more : (marks l : List ℕ) (x : ℕ) → length marks ≡ buckets → Met marks l → Met (set marks (bucketOf x) 1) (x ∷ l)
+unfolding count
+met-more marks l x size h y e = rw (ne-eqb x y (λ p. apart (ap bucketOf p))) (omega (arith, h y (sym (other apart) ∙ e)))
+  where
+    -- y is in another bucket, since its own is not marked
+    apart : bucketOf x ≡ bucketOf y → ⊥
+    apart p =
+        let here = getD-set-same marks (bucketOf x) 1 0 (omega (arith, bucket-lt x)) in
+        let there = ap (λ (k : ℕ). getD (set marks (bucketOf x) 1) k 0) p in
+        omega (arith, here, there, e)
+
+    other : (bucketOf x ≡ bucketOf y → ⊥) → getD (set marks (bucketOf x) 1) (bucketOf y) 0 ≡ getD marks (bucketOf y) 0
+    other n = getD-set-other marks (bucketOf x) (bucketOf y) 1 0 (λ p. n (sym p))
+
+-- a column of which the line above is added, which holds x: its counts, its twins, and the buckets met
+module _ (n s : ℕ) (b : List ℕ) (i j x : ℕ) (above : j + s ≡ i) (holds : x ≡ field 4 b j) where
+  words-up : words (n + 1) s b j ≡ x ∷ words n s b i
+  words-up =
+      let size : n + 1 - 1 ≡ n = omega arith in
+      words-step (n + 1) s b j (omega arith)
+      ∙ ap₂ (λ (m k : ℕ). field 4 b j ∷ words m s b k) size above
+      ∙ ap (λ (y : ℕ). y ∷ words n s b i) (sym holds)
+
+  pub count-up : (y : ℕ) → count y (words (n + 1) s b j) ≡ cond (eqb x y) 1 0 + count y (words n s b i)
+  unfolding count
+  count-up y = ap (count y) words-up
+
+  pub twins-up : twins (words (n + 1) s b j) ≡ count x (words n s b i) + twins (words n s b i)
+  unfolding twins
+  twins-up = ap twins words-up
+
+  pub met-up : (marks : List ℕ) → length marks ≡ buckets → Met marks (words n s b i) →
+      Met (set marks (bucketOf x) 1) (words (n + 1) s b j)
+  met-up marks size h = subst (Met (set marks (bucketOf x) 1)) (sym words-up) (met-more marks (words n s b i) x size h)
+
+-- ---- numbers that stand once
 
 -- where no number stands twice, each counts at most once
 pub count-once : (x : ℕ) (l : List ℕ) → twins l ≡ 0 → count x l ≤ 1

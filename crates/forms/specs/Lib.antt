@@ -5,3 +5,4 @@ pub mod Groups
 pub mod Number
 pub mod Roster
 pub mod Table
+pub mod Tally

@@ -2,8 +2,7 @@
 // are joints between layers: the caller has checked that the column lies inside the buffer.
 use crate::answer::Refusal;
 use crate::answer::Verdict;
-use crate::column::count_twins;
-use crate::column::count_word;
+use crate::column::tally_words;
 ghost use mathlib.Core.Path.{_≡_};
 ghost use Prim.Native.Nat.{_+_, _*_, _≤_};
 ghost use lib.ListN.{length};
@@ -34,13 +33,14 @@ pub fn judge(f: u32, own: u32, b: &[u8], i: usize, stride: usize, n: usize) -> V
     if own == 0 {
         return Verdict::Broken(Refusal::Zero);
     }
-    if 0 < count_word(b, i, stride, n, 0) {
+    let seen = tally_words(b, i, stride, n, own);
+    if 0 < seen.zeros {
         return Verdict::Broken(Refusal::Zero);
     }
-    if 0 < count_twins(b, i, stride, n) {
+    if 0 < seen.twins {
         return Verdict::Broken(Refusal::Twice);
     }
-    if count_word(b, i, stride, n, own) == 0 {
+    if seen.same == 0 {
         return Verdict::Broken(Refusal::Stranger);
     }
     Verdict::Sound

@@ -11,7 +11,7 @@ use crate::layout::HEADER;
 use evidence::rows::ROW;
 use fields::field::word;
 use fields::kind::ECHO;
-use forms::column::count_word;
+use forms::column::stands;
 use forms::form::Form;
 use forms::form::FormRead;
 use forms::form::read_form;
@@ -91,7 +91,7 @@ fn number_before_frame(image: &[u8], port: u32, room: usize) -> u32
         return 8;
     }
     let n = image[0] as usize;
-    if count_word(image, HEADER, ROW, n, port) == 0 {
+    if !stands(image, HEADER, ROW, n, port) {
         return 9;
     }
     0

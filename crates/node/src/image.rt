@@ -70,13 +70,9 @@ fn has_fixed_header(b: &[u8], layout: Layout) -> bool
     if half(b, 18) != size {
         return false;
     }
-    if word(b, 20) != 0 {
-        return false;
-    }
-    if word(b, 24) != 0 {
-        return false;
-    }
-    word(b, 28) == 0
+    // by their sum they are read as words; one by one the compiler would read each byte
+    let zeros = word(b, 20) as u64 + word(b, 24) as u64 + word(b, 28) as u64;
+    zeros == 0
 }
 
 // Whether a buffer begins with a header of this layout, and has the rows that it states.

@@ -4,8 +4,8 @@ use crate::answer::Verdict;
 use fields::field::half;
 use fields::field::word;
 use forms::column::ascends;
-use forms::column::count_twins;
 use forms::column::count_word;
+use forms::column::tally_words;
 ghost use mathlib.Core.Path.{_≡_};
 ghost use Prim.Native.Nat.{_+_, _*_, _≤_};
 ghost use lib.ListN.{length};
@@ -73,7 +73,7 @@ fn has_twins(b: &[u8], i: usize, n: usize) -> bool
     if ascends(b, i, ENTRY, n) {
         return false;
     }
-    0 < count_twins(b, i, ENTRY, n)
+    0 < tally_words(b, i, ENTRY, n, 0).twins
 }
 
 // The first of 15 and 16 that applies to the n entries from i on, all of them looked at for 15 before any is for 16.

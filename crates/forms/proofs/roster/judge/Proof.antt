@@ -1,7 +1,7 @@
 -- `roster::judge` meets its contract: each test that fails is one case of the roster's number, over a column of which the length is n.
 -- Assumes nothing.
 use borrow.Author.Needs.{needs}
-use mathlib.Core.Path.{_≡_, sym}
+use mathlib.Core.Path.{_≡_, sym, _∙_}
 use mathlib.Core.List.{List}
 use Prim.Native.Nat.{ℕ, _≤_}
 use native.Mathlib.Omega.{arith}
@@ -59,40 +59,54 @@ returns-5 c =
     let d = c .before .before .before .before .before .before in
     sym (roster-own (d .args .f) (d .args .own) (serials d) (limits (c .before .before)) (stated (c .before)) (c .if5 .taken))
 
-count-word-requires : tie.Need-count-word-requires
-count-word-requires c κs = search needs
+tally-words-requires : tie.Need-tally-words-requires
+tally-words-requires c κs = search needs
+
+-- where the serials have been looked at
+abbrev start : tie.After-tally-words → tie.Start
+start t = t .before .before .before .before .before .before .before
+
+abbrev within : (t : tie.After-tally-words) → Limits (start t .args .f) (length (serials (start t)))
+within t = limits (t .before .before .before)
 
 returns-6 : tie.Need-returns-6
 returns-6 c =
-    let d = c .before .before .before .before .before .before .before .before in
-    let e = c .before .before .before in
-    sym (roster-zero (d .args .f) (d .args .own) (serials d) (limits (e .before)) (stated e) (omega arith))
-
-count-twins-requires : tie.Need-count-twins-requires
-count-twins-requires c κs = search needs
+    let t = c .before .before in
+    let d = start t in
+    let seen = t .tally-words .ensures in
+    sym (roster-zero (d .args .f) (d .args .own) (serials d) (within t) (stated (t .before .before)) (omega (arith, seen .zeros)))
 
 returns-7 : tie.Need-returns-7
 returns-7 c =
-    let d = c .before .before .before .before .before .before .before .before .before .before in
-    let e = c .before .before .before .before .before in
-    sym (roster-twice (d .args .f) (d .args .own) (serials d) (limits (e .before)) (stated e) (omega arith) (omega arith) (omega arith))
-
-count-word-requires-2 : tie.Need-count-word-requires-2
-count-word-requires-2 c κs = search needs
+    let t = c .before .before .before .before in
+    let d = start t in
+    let seen = t .tally-words .ensures in
+    sym
+    (roster-twice (d .args .f) (d .args .own) (serials d) (within t) (stated (t .before .before)) (omega arith)
+    (omega (arith, seen .zeros))
+    (omega (arith, seen .twins)))
 
 returns-8 : tie.Need-returns-8
 returns-8 c =
-    let d = c .before .before .before .before .before .before .before .before .before .before .before .before in
-    let e = c .before .before .before .before .before .before .before in
-    let l = limits (e .before) in
-    sym (roster-stranger (d .args .f) (d .args .own) (serials d) l (stated e) (omega arith) (omega arith) (omega arith) (omega arith))
+    let t = c .before .before .before .before .before .before in
+    let d = start t in
+    let seen = t .tally-words .ensures in
+    sym
+    (roster-stranger (d .args .f) (d .args .own) (serials d) (within t) (stated (t .before .before)) (omega arith)
+    (omega (arith, seen .zeros))
+    (omega (arith, seen .twins))
+    (omega (arith, seen .same)))
 
 returns-9 : tie.Need-returns-9
 returns-9 c =
-    let d = c .before .before .before .before .before .before .before .before .before .before .before .before in
-    let e = c .before .before .before .before .before .before .before in
-    let l = limits (e .before) in
-    sym (roster-sound (d .args .f) (d .args .own) (serials d) l (stated e) (omega arith) (omega arith) (omega arith) (omega arith))
+    let t = c .before .before .before .before .before .before in
+    let d = start t in
+    let seen = t .tally-words .ensures in
+    sym
+    (roster-sound (d .args .f) (d .args .own) (serials d) (within t) (stated (t .before .before)) (omega arith)
+    (omega (arith, seen .zeros))
+    (omega (arith, seen .twins))
+    (λ e. c .if8 .left (seen .same ∙ e)))
 
 pub judge-spec : {M : Type 1} → statement M
 judge-spec =
@@ -105,10 +119,8 @@ judge-spec =
     returns-3
     returns-4
     returns-5
-    count-word-requires
+    tally-words-requires
     returns-6
-    count-twins-requires
     returns-7
-    count-word-requires-2
     returns-8
     returns-9)

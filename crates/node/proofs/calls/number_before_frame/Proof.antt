@@ -6,11 +6,13 @@ use mathlib.Core.Path.{_≡_, refl, sym, _∙_}
 use mathlib.Core.Bool.{true, cond}
 use native.Mathlib.Omega.{arith}
 use denote.Ref.{now}
+use Prim.Native.Nat.{ℕ}
 use lib.Dec.{eqb, lit≤}
-use borrow.Author.Tests.{lt-ltb, le-ltb, eq-eqb, ne-eqb, not-true, not-false}
+use borrow.Author.Tests.{lt-ltb, le-ltb, ltb-true, ltb-false, eq-eqb, ne-eqb, not-true, not-false}
+use Rattle.forms.specs.Column.{count}
 use Rattle.node.specs.Calls.{numberBeforeFrame}
 use Rattle.rules.specs.Describe.{room, lastTick}
-use Rattle.node.specs.Image.{soundImage}
+use Rattle.node.specs.Image.{soundImage, rosterIn}
 use Rattle.node.specs.Layout.{layout}
 use Rattle.node.proofs.Sound.{SoundBytes, sound-bytes, rows-inside}
 use Rattle.node.proofs.calls.number_before_frame.Statement.{statement}
@@ -47,25 +49,38 @@ shared-slice-read-n c = omega (arith, facts (c .before) .header)
 cast-n : tie.Need-cast-n
 cast-n c = omega (arith, c .shared-slice-known2 .given 0)
 
-count-word-requires : tie.Need-count-word-requires
-count-word-requires c κs =
+stands-requires : tie.Need-stands-requires
+stands-requires c κs =
     let h = facts (c .before) in
     (lit≤ tt, rows-inside layout (now (c .before .before .before .before .before .args .image)) (h .fixed) (h .stated))
 
--- past the tests of room and image the count of the port's rows decides
-counted : (c : tie.After-count-word) →
+-- past the tests of room and image the port's place in the roster decides
+counted : (c : tie.After-stands) →
     let a = c .before .before .before .before .before .before .args in
-    numberBeforeFrame layout lastTick (now (a .image)) (a .port) (a .room) ≡ cond (eqb (c .count-word .result) 0) 9 0
+    numberBeforeFrame layout lastTick (now (a .image)) (a .port) (a .room)
+    ≡ cond (eqb (count (a .port) (rosterIn layout (now (a .image)))) 0) 9 0
 unfolding numberBeforeFrame
 counted c =
     let a = c .before .before .before .before .before .before .args in
-    rw (le-ltb (a .room) room (c .before .before .before .before .if1 .left), sound (c .before .before), ← c .count-word .ensures .0)
+    rw (le-ltb (a .room) room (c .before .before .before .before .if1 .left), sound (c .before .before))
+
+-- how often the port stands there
+abbrev often : tie.After-stands → ℕ
+often c =
+    let a = c .before .before .before .before .before .before .args in
+    count (a .port) (rosterIn layout (now (a .image)))
 
 returns-3 : tie.Need-returns-3
-returns-3 c = rw (counted (c .before), eq-eqb (c .before .count-word .result) 0 (c .if3 .taken)) refl
+returns-3 c =
+    let d = c .before in
+    let none = ltb-false 0 (often d) (sym (d .stands .ensures) ∙ not-true (d .stands .result) (c .if3 .taken)) in
+    rw (counted d, eq-eqb (often d) 0 (omega arith)) refl
 
 returns-4 : tie.Need-returns-4
-returns-4 c = rw (counted (c .before), ne-eqb (c .before .count-word .result) 0 (c .if3 .left)) refl
+returns-4 c =
+    let d = c .before in
+    let some = ltb-true 0 (often d) (sym (d .stands .ensures) ∙ not-false (d .stands .result) (c .if3 .left)) in
+    rw (counted d, ne-eqb (often d) 0 (λ e. omega arith)) refl
 
 pub number-before-frame-spec : {M : Type 1} → statement M
 number-before-frame-spec =
@@ -76,6 +91,6 @@ number-before-frame-spec =
     returns-2
     shared-slice-read-n
     cast-n
-    count-word-requires
+    stands-requires
     returns-3
     returns-4)

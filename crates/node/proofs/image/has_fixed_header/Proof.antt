@@ -2,10 +2,10 @@
 -- part decides.
 -- Assumes nothing.
 use borrow.Author.Needs.{needs}
-use mathlib.Core.Path.{_≡_, sym, _∙_}
-use mathlib.Core.Bool.{false, _&&_}
+use mathlib.Core.Path.{_≡_, sym, ap, ap₂, _∙_}
+use mathlib.Core.Bool.{Bool, false, _&&_}
 use mathlib.Core.List.{List}
-use Prim.Native.Nat.{ℕ}
+use Prim.Native.Nat.{ℕ, zero, suc, _+_}
 use native.Mathlib.Omega.{arith}
 use denote.Ref.{now}
 use lib.ListN.{getD}
@@ -93,37 +93,43 @@ returns-3 c =
 word-requires : tie.Need-word-requires
 word-requires c κs = search needs
 
-returns-4 : tie.Need-returns-4
-returns-4 c =
-    let b = now (c .before .before .before .before .before .before .before .before .before .before .before .before .args .b) in
-    rw (stated (c .before .before), ne-eqb (field 4 b 20) 0 (λ e. c .if4 .taken (c .before .word .ensures ∙ e)))
+cast-zeros : tie.Need-cast-zeros
+cast-zeros c = search needs
 
 word-requires-2 : tie.Need-word-requires-2
 word-requires-2 c κs = search needs
 
-returns-5 : tie.Need-returns-5
-returns-5 c =
-    let third = c .before .before .before .before in
-    let b = now (third .before .before .before .before .before .before .before .before .before .before .args .b) in
-    rw (
-      stated third,
-      eq-eqb (field 4 b 20) 0 (sym (c .before .before .before .word .ensures) ∙ c .before .before .if4 .left),
-      ne-eqb (field 4 b 24) 0 (λ e. c .if5 .taken (c .before .word2 .ensures ∙ e)),
-    )
+cast-zeros-2 : tie.Need-cast-zeros-2
+cast-zeros-2 c = search needs
+
+add-zeros : tie.Need-add-zeros
+add-zeros c = search needs
 
 word-requires-3 : tie.Need-word-requires-3
 word-requires-3 c κs = search needs
 
-returns-6 : tie.Need-returns-6
-returns-6 c =
-    let third = c .before .before .before .before .before in
+cast-zeros-3 : tie.Need-cast-zeros-3
+cast-zeros-3 c = search needs
+
+add-zeros-2 : tie.Need-add-zeros-2
+add-zeros-2 c = omega arith
+
+-- a sum is 0 where each part is
+sum-none : (x y z : ℕ) → eqb (x + y + z) 0 ≡ (eqb x 0 && (eqb y 0 && eqb z 0))
+sum-none zero zero z = let e : zero + zero + z ≡ z = omega arith in ap (λ (n : ℕ). eqb n 0) e
+sum-none zero (suc y) z =
+    ne-eqb (zero + suc y + z) 0 (λ e. omega arith)
+    ∙ sym (ap (λ (q : Bool). q && eqb z 0) (ne-eqb (suc y) 0 (λ e. omega arith)))
+sum-none (suc x) y z =
+    ne-eqb (suc x + y + z) 0 (λ e. omega arith)
+    ∙ sym (ap (λ (q : Bool). q && (eqb y 0 && eqb z 0)) (ne-eqb (suc x) 0 (λ e. omega arith)))
+
+returns-4 : tie.Need-returns-4
+returns-4 c =
+    let third = c .before .before .before in
     let b = now (third .before .before .before .before .before .before .before .before .before .before .args .b) in
-    rw (
-      stated third,
-      eq-eqb (field 4 b 20) 0 (sym (c .before .before .before .before .word .ensures) ∙ c .before .before .before .if4 .left),
-      eq-eqb (field 4 b 24) 0 (sym (c .before .before .word2 .ensures) ∙ c .before .if5 .left),
-      c .word3 .ensures,
-    )
+    let words = ap₂ _+_ (ap₂ _+_ (c .before .before .word .ensures) (c .before .word2 .ensures)) (c .word3 .ensures) in
+    ap (λ (n : ℕ). eqb n 0) words ∙ sum-none (field 4 b 20) (field 4 b 24) (field 4 b 28) ∙ sym (stated third)
 
 pub has-fixed-header-spec : {M : Type 1} → statement M
 has-fixed-header-spec =
@@ -139,8 +145,11 @@ has-fixed-header-spec =
     half-requires-2
     returns-3
     word-requires
-    returns-4
+    cast-zeros
     word-requires-2
-    returns-5
+    cast-zeros-2
+    add-zeros
     word-requires-3
-    returns-6)
+    cast-zeros-3
+    add-zeros-2
+    returns-4)

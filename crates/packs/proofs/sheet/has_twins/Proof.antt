@@ -22,13 +22,13 @@ returns c =
       ascends-once (words (a .n) entrySize (now (a .b)) (a .i)) (sym (c .before .ascends .ensures) ∙ c .if1 .taken),
     )
 
-count-twins-requires : tie.Need-count-twins-requires
-count-twins-requires c κs = search needs
+tally-words-requires : tie.Need-tally-words-requires
+tally-words-requires c κs = search needs
 
 returns-2 : tie.Need-returns-2
 returns-2 c =
-    let a = c .before .before .before .before .args in
-    rw (packs-words (a .n) (now (a .b)) (a .i)) (ap (ltb 0) (c .count-twins .ensures))
+    let a = c .before .before .before .before .before .args in
+    rw (packs-words (a .n) (now (a .b)) (a .i)) (ap (ltb 0) (c .before .tally-words .ensures .twins))
 
 pub has-twins-spec : {M : Type 1} → statement M
-has-twins-spec = tie.close (tie.spec ascends-requires returns count-twins-requires returns-2)
+has-twins-spec = tie.close (tie.spec ascends-requires returns tally-words-requires returns-2)

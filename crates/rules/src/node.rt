@@ -11,6 +11,7 @@ use fields::kind::INIT;
 use forms::frame::BROADCAST;
 use forms::frame::Frame;
 use search::greatest::find_greatest;
+use search::tops::is_reached;
 ghost use mathlib.Core.Path.{_≡_};
 ghost use Prim.Native.Nat.{_+_, _*_, _≤_, max};
 ghost use lib.ListN.{length};
@@ -146,9 +147,12 @@ impl Node {
     {
         let n = self.lines as usize;
         let enough = self.faults as usize + 1;
-        let jump = find_greatest(b, i, n, ECHO, Node::WINDOW, enough, self.tick as u64 + 2);
-        if 0 < jump {
-            return Rule::Jump((jump - 1) as u32);
+        let low = self.tick as u64 + 2;
+        if is_reached(b, i, n, ECHO, enough, low) {
+            let jump = find_greatest(b, i, n, ECHO, Node::WINDOW, enough, low);
+            if 0 < jump {
+                return Rule::Jump((jump - 1) as u32);
+            }
         }
         if self.mode == 0 {
             let wake = find_greatest(b, i, n, INIT, Node::WINDOW, enough, 0);

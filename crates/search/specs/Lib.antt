@@ -1,3 +1,5 @@
 pub mod Asked
 pub mod Levels
+pub mod Order
 pub mod Scan
+pub mod Tops

@@ -1,10 +1,16 @@
 // The greatest tick of a kind that enough serials hold. A joint between layers: it asks that the rows lie inside the buffer and
 // that the window fits a mask, which the node has checked before.
 use crate::levels::Levels;
+use crate::order::PLACES;
+use crate::order::Passed;
+use crate::order::look;
+use crate::order::pass;
+use crate::order::placed;
+use crate::order::sort_tops;
 use crate::scan::less;
 use crate::scan::scan;
+use crate::scan::view;
 use evidence::rows::count_holders;
-use evidence::rows::set_place;
 use sets::mask::Mask;
 use sets::ticks::Ticks;
 ghost use mathlib.Core.Path.{_≡_};
@@ -13,6 +19,7 @@ ghost use lib.ListN.{length};
 ghost use Rattle.evidence.specs.Holders.{greatest, bestOf};
 ghost use Rattle.evidence.specs.Rows.{rowBytes, rowsAt};
 ghost use Rattle.sets.specs.Sets.{maskBytes, maskBits, tickCount, heldBy};
+ghost use Rattle.search.specs.Asked.{MayWalk};
 ghost use Rattle.search.specs.Levels.{capacity};
 
 // The greatest tick of one set s, as tick + 1, that is above best and that m of the n rows hold; else best. The set's own bit
@@ -57,29 +64,55 @@ fn countable(m: usize) -> u64
     }
 }
 
-// The greatest tick of a kind, as tick + 1, that is at least low and that m of the n rows from i on hold; 0 for none. Where m is
-// more than a counter can tell, the ticks that it shows are counted one by one.
+// The same as find_greatest, by a walk downwards from the last tick that a top can tell, along the tops in order. Masks are read only
+// where enough windows cover a tick. Where m is more than a counter can tell, the ticks that it shows are counted one by one.
+fn walk_down(
+    b: &[u8],
+    i: usize,
+    n: usize,
+    kind: u32,
+    w: u32,
+    m: usize,
+    low: u64,
+    ys: &[u64; PLACES],
+) -> u64
+    requires { ⌜ MayWalk (now b) i n kind w (now ys) ⌝ }
+    ensures { λ r. ⌜ (r ≡ greatest w kind m low (rowsAt maskBytes n (now (b .entry)) i)) × (r ≤ tickCount) ⌝ }
+{
+    let enough = at_least_one(m);
+    let short = countable(enough);
+    let mut passed = Passed { begun: 0, ended: 0 };
+    let mut x: u64 = Ticks::COUNT;
+    while low < x {
+        passed = pass(ys, w, x, passed);
+        let tops = look(b, i, n, kind, w, x, ys, passed);
+        if tops.here < enough {
+            x = tops.next;
+        } else {
+            let held = scan(b, i, n, kind, w, short, x);
+            if held != 0 {
+                let s = Ticks {
+                    top: (x - 1) as u32,
+                    mask: Mask::of(held),
+                };
+                let best = better(b, i, n, kind, w, enough, s, low);
+                if low < best {
+                    return best;
+                }
+            }
+            x = less(x, view(w));
+        }
+    }
+    0
+}
+
+// The greatest tick of a kind, as tick + 1, that is at least low and that m of the n rows from i on hold; 0 for none. Who
+// searches from some low on asks is_reached first: mostly too few tops reach so far up, and there is nothing to find.
 pub fn find_greatest(b: &[u8], i: usize, n: usize, kind: u32, w: u32, m: usize, low: u64) -> u64
     requires { ⌜ (i + n * rowBytes ≤ length (now b)) × (w ≤ maskBits) ⌝ }
     ensures { λ r. ⌜ (r ≡ greatest w kind m low (rowsAt maskBytes n (now (b .entry)) i)) × (r ≤ tickCount) ⌝ }
 {
-    let place = set_place(kind);
-    let enough = at_least_one(m);
-    let short = countable(enough);
-    let mut x: u64 = Ticks::COUNT;
-    while low < x {
-        let seen = scan(b, i, n, place, kind, w, short, x);
-        if seen.held != 0 {
-            let s = Ticks {
-                top: (x - 1) as u32,
-                mask: Mask::of(seen.held),
-            };
-            let best = better(b, i, n, kind, w, enough, s, low);
-            if low < best {
-                return best;
-            }
-        }
-        x = seen.next;
-    }
-    0
+    let mut ys = [0u64; PLACES];
+    sort_tops(b, i, placed(n), kind, &mut ys);
+    walk_down(b, i, n, kind, w, m, low, &ys)
 }

@@ -1,5 +1,8 @@
-// The search for the greatest tick that enough serials hold, over rows as they lie in an image's bytes. Ticks are looked at as many
-// at a time as a word has bits, so that a search costs little more than a few looks at each row, whatever the rows hold.
+// The search for the greatest tick that enough serials hold, over rows as they lie in an image's bytes. Tops are looked at first, since
+// mostly they alone tell that there is none. Masks are looked at only where enough windows cover a tick, for as many ticks at a time as
+// a word has bits.
 pub mod greatest;
 mod levels;
+mod order;
 mod scan;
+pub mod tops;

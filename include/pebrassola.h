@@ -14,7 +14,8 @@
  * node is its image and nothing else, so one program may run any number of nodes, and an image may be copied, stored and moved between
  * calls. The calls use no heap and no global data, and call nothing outside the archive: it links without a C library.
  *
- * Link with libpebrassola.a (x86-64), which `rt staticlib pebrassola` writes.
+ * Link with libpebrassola.a: `bin/archive` writes one for x86-64 and one for 64-bit Arm (aarch64-unknown-linux-gnu, little-endian), and
+ * prints where they lie.
  */
 #ifndef PEBRASSOLA_H
 #define PEBRASSOLA_H
@@ -66,19 +67,20 @@ extern "C" {
 #define PEBRASSOLA_MOST_ENTRIES 200u
 
 /*
- * What a call of the x86-64 archive takes of the stack at most, in bytes, whatever it is handed, its return address included; the last is
- * the greatest of the six. The caller adds its own frames and the last argument of deliver, which passes on the stack.
+ * What a call of the archive for x86-64 takes of the stack at most, in bytes, whatever it is handed, its return address included; the
+ * last is the greatest of the six. The caller adds its own frames and the last argument of deliver, which passes on the stack. That for
+ * Arm takes less by the frames that its compiler states, which no test holds.
  *
  * The calls keep to the System V convention, by which a function may use the 128 bytes below its stack pointer; the figures count them.
  * An interrupt that the processor puts on the same stack would overwrite these bytes: interrupts need a stack of their own. Signals of an
  * operating system step over them.
  */
-#define PEBRASSOLA_BOOT_STACK_BYTES 368u
-#define PEBRASSOLA_DELIVER_STACK_BYTES 816u
-#define PEBRASSOLA_READ_STACK_BYTES 688u
-#define PEBRASSOLA_PACK_STACK_BYTES 736u
-#define PEBRASSOLA_WRITE_SHEET_STACK_BYTES 296u
-#define PEBRASSOLA_CONVERT_STACK_BYTES 432u
+#define PEBRASSOLA_BOOT_STACK_BYTES 496u
+#define PEBRASSOLA_DELIVER_STACK_BYTES 1024u
+#define PEBRASSOLA_READ_STACK_BYTES 896u
+#define PEBRASSOLA_PACK_STACK_BYTES 944u
+#define PEBRASSOLA_WRITE_SHEET_STACK_BYTES 432u
+#define PEBRASSOLA_CONVERT_STACK_BYTES 544u
 #define PEBRASSOLA_STACK_BYTES PEBRASSOLA_DELIVER_STACK_BYTES
 
 /*

@@ -1,8 +1,13 @@
 /*
- * What a call costs in time: nanoseconds of deliver and read at n = 4, 7 and 32 over a recorded run, beside the plain C model of
- * tests/compare, in one run of one program, as ratios; the dearest sound image that we know for one deliver; convert on a fresh old image
- * and on a dear one; the same for sheets of 1, 20 and 200 entries. Prints the tables of time in docs/PERFORMANCE.md. What it costs in
- * stack: tests/stack.
+ * What a call costs, the proved one beside others that do the same, all in one program on one machine.
+ *
+ * Nodes: boot, a typical deliver, the dearest, and read, at n = 4, 7 and 32, beside the two peers of bench/peers. A typical deliver is one
+ * of a recorded run of 4,096; the dearest is that of the dearest image among the families of inputs.c, of each peer its own. The floor
+ * reads an image's bytes once and does nothing else. Old images and sheets: beside the plain model of tests/compare.
+ *
+ * With no word it tells nanoseconds, the least of many rounds. With -DCOUNTED it has callgrind count instructions, to be run under it with
+ * --instr-atstart=no: each figure is the difference of two dumps, of more rounds and of fewer, so that what is done once falls out. Either
+ * way a line is: what, n, who, figure. bench/table makes the tables of docs/PERFORMANCE.md of them.
  */
 #define _XOPEN_SOURCE 600
 #include <stdio.h>
@@ -11,54 +16,139 @@
 
 #include "../tests/compare/model.h"
 #include "inputs.h"
+#include "peers/calls.h"
 
-enum { ROUNDS = 9 };
+#ifdef COUNTED
+#include <valgrind/callgrind.h>
+#endif
 
-typedef struct model_result deliver_call(uint8_t *, size_t, uint32_t, const uint8_t *, size_t, uint8_t *, size_t);
-typedef struct model_result read_call(const uint8_t *, size_t);
-typedef struct model_result pack_call(const uint8_t *, size_t, uint32_t, const uint8_t *, size_t);
-typedef struct model_result write_call(const uint8_t *, size_t, uint8_t *, size_t); /* of convert as well */
+/* ---- who */
 
-static uint8_t fresh[PEBRASSOLA_IMAGE_BYTES(MOST)], image[sizeof fresh], out[PEBRASSOLA_OUT_BYTES];
-static volatile uint32_t sink;
+typedef struct pebrassola_answer boot_call(const uint8_t *, size_t, uint8_t *, size_t, uint8_t *, size_t);
+typedef struct pebrassola_answer deliver_call(uint8_t *, size_t, uint32_t, const uint8_t *, size_t, uint8_t *, size_t);
+typedef struct pebrassola_reading read_call(const uint8_t *, size_t);
 
-static struct model_result proved_deliver(uint8_t *i, size_t i_length, uint32_t port, const uint8_t *f, size_t f_length, uint8_t *o,
-                                          size_t o_length)
+static const struct peer {
+    const char *name;
+    boot_call *boot;
+    deliver_call *deliver;
+    read_call *read;
+} peers[] = {
+    {"proved", pebrassola_boot, pebrassola_deliver, pebrassola_read},
+    {"plain", plain_boot, plain_deliver, plain_read},
+    {"lean", lean_boot, lean_deliver, lean_read},
+};
+
+enum { PEERS = sizeof peers / sizeof *peers };
+
+/* ---- what a round of each does */
+
+static const struct peer *peer;
+static size_t size, form_size, old_size;
+static uint8_t form[PEBRASSOLA_FORM_BYTES(MOST)], fresh[PEBRASSOLA_IMAGE_BYTES(MOST)], image[sizeof fresh], out[PEBRASSOLA_OUT_BYTES];
+static uint8_t old[PEBRASSOLA_OLD_IMAGE_BYTES(MOST)];
+static struct event dear;
+static volatile uint64_t sink;
+
+static void boots(void)
 {
-    struct pebrassola_answer a = pebrassola_deliver(i, i_length, port, f, f_length, o, o_length);
-    struct model_result r = {a.number, a.records, a.fired};
-    return r;
+    sink += peer->boot(form, form_size, image, size, out, sizeof out).number;
 }
 
-static struct model_result proved_read(const uint8_t *i, size_t i_length)
+static void delivers_run(void)
 {
-    struct pebrassola_reading a = pebrassola_read(i, i_length);
-    struct model_result r = {a.number, a.clock, 0};
-    return r;
+    memcpy(image, fresh, size);
+    for (unsigned e = 0; e < EVENTS; e++)
+        sink += peer->deliver(image, size, events[e].port, events[e].frame, sizeof events[e].frame, out, sizeof out).records;
 }
 
-static struct model_result proved_pack(const uint8_t *s, size_t s_length, uint32_t pack, const uint8_t *i, size_t i_length)
+static void copies(void)
 {
-    struct pebrassola_licence a = pebrassola_pack(s, s_length, pack, i, i_length);
-    struct model_result r = {a.number, a.licence, 0};
-    return r;
+    memcpy(image, fresh, size);
 }
 
-static struct model_result proved_write_sheet(const uint8_t *e, size_t e_length, uint8_t *o, size_t o_length)
+static void delivers_dear(void)
 {
-    struct pebrassola_written a = pebrassola_write_sheet(e, e_length, o, o_length);
-    struct model_result r = {a.number, a.written, 0};
-    return r;
+    copies();
+    sink += peer->deliver(image, size, dear.port, dear.frame, sizeof dear.frame, out, sizeof out).records;
 }
 
-static struct model_result proved_convert(const uint8_t *old, size_t old_length, uint8_t *i, size_t i_length)
+static void reads(void)
 {
-    struct pebrassola_written a = pebrassola_convert(old, old_length, i, i_length);
-    struct model_result r = {a.number, a.written, 0};
-    return r;
+    sink += peer->read(image, size).number;
 }
 
-/* ---- time */
+static void reads_bytes(void)
+{
+    uint64_t all = 0, eight;
+    for (size_t i = 0; i + sizeof eight <= size; i += sizeof eight) {
+        memcpy(&eight, image + i, sizeof eight);
+        all ^= eight;
+    }
+    sink += all;
+}
+
+/* ---- sheets, asked by an idle node of four, and old images */
+
+enum { ASKING = 4 };
+
+static const uint8_t *sheet;
+static uint8_t made[sizeof shuffled];
+static unsigned entries;
+
+static void proved_packs(void)
+{
+    for (unsigned e = 0; e < entries; e++)
+        sink += pebrassola_pack(sheet, PEBRASSOLA_SHEET_BYTES(entries), pack_at(e, entries), image, PEBRASSOLA_IMAGE_BYTES(ASKING)).licence;
+}
+
+static void model_packs(void)
+{
+    for (unsigned e = 0; e < entries; e++)
+        sink += model_pack(sheet, PEBRASSOLA_SHEET_BYTES(entries), pack_at(e, entries), image, PEBRASSOLA_IMAGE_BYTES(ASKING)).value;
+}
+
+static void proved_writes(void)
+{
+    sink += pebrassola_write_sheet(sheet + 4, PEBRASSOLA_SHEET_BYTES(entries) - 4, made, sizeof made).written;
+}
+
+static void model_writes(void)
+{
+    sink += model_write_sheet(sheet + 4, PEBRASSOLA_SHEET_BYTES(entries) - 4, made, sizeof made).value;
+}
+
+static void proved_converts(void)
+{
+    sink += pebrassola_convert(old, old_size, image, sizeof image).written;
+}
+
+static void model_converts(void)
+{
+    sink += model_convert(old, old_size, image, sizeof image).value;
+}
+
+/* ---- figures */
+
+#ifdef COUNTED
+
+/* dumps are told apart by their labels; the table takes their difference */
+static void measure(const char *what, unsigned n, const char *who, void (*round)(void), unsigned calls, unsigned rounds)
+{
+    char label[99];
+    unsigned some[] = {1, 1 + rounds / 8 + 1};
+    round();
+    for (unsigned s = 0; s < 2; s++) {
+        CALLGRIND_START_INSTRUMENTATION;
+        CALLGRIND_ZERO_STATS;
+        for (unsigned r = 0; r < some[s]; r++) round();
+        sprintf(label, "%s;%u;%s;%u", what, n, who, some[s] * calls);
+        CALLGRIND_DUMP_STATS_AT(label);
+        CALLGRIND_STOP_INSTRUMENTATION;
+    }
+}
+
+#else
 
 static double now(void)
 {
@@ -67,171 +157,75 @@ static double now(void)
     return 1e9 * (double)t.tv_sec + (double)t.tv_nsec;
 }
 
-/* the least of several rounds, so that what else the machine does counts little */
-static double least = 1e18, started;
-
-static void start_round(void)
+/* one call of the batch that took least; a batch is long enough for the clock */
+static void measure(const char *what, unsigned n, const char *who, void (*round)(void), unsigned calls, unsigned rounds)
 {
-    started = now();
-}
-
-static void end_round(void)
-{
-    double taken = now() - started;
-    if (taken < least) least = taken;
-}
-
-/* one call of so many in the round that took least */
-static double least_call(unsigned calls)
-{
-    double time = least / calls;
-    least = 1e18;
-    return time;
-}
-
-/* one delivery of some that a fresh node takes */
-static double time_deliver(deliver_call *deliver, size_t size, const struct event *taken, unsigned count, unsigned rounds)
-{
-    for (unsigned round = 0; round < rounds; round++) {
-        memcpy(image, fresh, size);
-        start_round();
-        for (unsigned e = 0; e < count; e++) sink += deliver(image, size, taken[e].port, taken[e].frame, 8, out, sizeof out).value;
-        end_round();
+    enum { BATCHES = 25 };
+    double least = 1e18;
+    round();
+    for (unsigned batch = 0; batch < BATCHES; batch++) {
+        double start = now(), taken;
+        for (unsigned r = 0; r < rounds; r++) round();
+        taken = now() - start;
+        if (taken < least) least = taken;
     }
-    return least_call(count);
+    printf("%s;%u;%s;%.1f\n", what, n, who, least / rounds / calls);
 }
 
-static double time_run(deliver_call *deliver, size_t size)
-{
-    return time_deliver(deliver, size, events, EVENTS, ROUNDS);
-}
+#endif
 
-static double time_dear(deliver_call *deliver, size_t size, const struct event *dear)
+static void measure_nodes(unsigned n)
 {
-    return time_deliver(deliver, size, dear, 1, 99);
-}
-
-static double time_read(read_call *read, size_t size)
-{
-    for (int round = 0; round < ROUNDS; round++) {
-        start_round();
-        for (unsigned e = 0; e < EVENTS; e++) sink += read(image, size).value;
-        end_round();
+    record_run(n);
+    make_form(n, 0, form);
+    form_size = PEBRASSOLA_FORM_BYTES(n);
+    size = boot(n, 0, fresh);
+    for (peer = peers; peer < peers + PEERS; peer++) {
+        measure("boot", n, peer->name, boots, 1, 100);
+        boot(n, 0, fresh);
+        measure("deliver, typical", n, peer->name, delivers_run, EVENTS, 2);
+        measure("read", n, peer->name, reads, 1, 100);
     }
-    return least_call(EVENTS);
-}
-
-/* ---- dear images */
-
-/* the family that is dearest for the proved calls */
-static unsigned dearest(unsigned n, size_t size)
-{
-    unsigned which = 0;
-    double most = 0;
+    measure("floor", n, "floor", reads_bytes, 1, 100);
+    measure("copy", n, "copy", copies, 1, 100);
     for (unsigned family = 0; family < FAMILIES; family++) {
-        struct event dear = make_dear(n, family, fresh);
-        double time = time_dear(proved_deliver, size, &dear);
-        if (most < time) most = time, which = family;
+        dear = make_dear(n, family, fresh);
+        for (peer = peers; peer < peers + PEERS; peer++) measure("deliver, dearest", n, peer->name, delivers_dear, 1, 8);
     }
-    return which;
 }
 
-/* ---- old images */
-
-static uint8_t old[PEBRASSOLA_OLD_IMAGE_BYTES(MOST)];
-
-static double time_convert(write_call *convert, size_t size)
+static void measure_old(unsigned n)
 {
-    enum { CALLS = 256 };
-    for (int round = 0; round < ROUNDS; round++) {
-        start_round();
-        for (unsigned e = 0; e < CALLS; e++) sink += convert(old, size, image, sizeof image).value;
-        end_round();
+    static const char *const kinds[] = {"convert, fresh", "convert, dear"};
+    for (int kind = 0; kind < 2; kind++) {
+        old_size = make_old(n, kind, old);
+        measure(kinds[kind], n, "proved", proved_converts, 1, 64);
+        measure(kinds[kind], n, "plain", model_converts, 1, 64);
     }
-    return least_call(CALLS);
 }
 
-/* ---- sheets, asked by an idle node of four */
-
-enum { ASKING = 4 };
-
-static uint8_t made[sizeof shuffled];
-
-static double time_pack(pack_call *pack, const uint8_t *sheet, unsigned count)
+static void measure_sheets(unsigned count)
 {
-    unsigned calls = EVENTS / count;
-    for (int round = 0; round < ROUNDS; round++) {
-        start_round();
-        for (unsigned e = 0; e < calls; e++)
-            sink += pack(sheet, PEBRASSOLA_SHEET_BYTES(count), pack_at(e, count), image, PEBRASSOLA_IMAGE_BYTES(ASKING)).value;
-        end_round();
-    }
-    return least_call(calls);
-}
-
-static double time_write(write_call *write, const uint8_t *sheet, size_t length)
-{
-    enum { CALLS = 16 };
-    for (int round = 0; round < ROUNDS; round++) {
-        start_round();
-        for (unsigned e = 0; e < CALLS; e++) sink += write(sheet + 4, length - 4, made, sizeof made).value;
-        end_round();
-    }
-    return least_call(CALLS);
-}
-
-static void row(const char *what, unsigned n, double proved, double plain)
-{
-    printf("| %s | %u | %.0f | %.0f | %.2f |\n", what, n, proved, plain, proved / plain);
-}
-
-static void convert_row(const char *what, unsigned n, int dear)
-{
-    size_t size = make_old(n, dear, old);
-    row(what, n, time_convert(proved_convert, size), time_convert(model_convert, size));
-}
-
-static void sheet_rows(void)
-{
-    static const unsigned counts[] = {1, 20, PEBRASSOLA_MOST_ENTRIES};
-    size_t length = 0;
+    static const char *const packs[] = {"pack, ascending", "pack, shuffled"};
+    static const char *const writes[] = {"write_sheet, of ascending", "write_sheet, of shuffled"};
     make_asking(ASKING, image);
-    for (unsigned c = 0; c < 3; c++) {
-        unsigned count = counts[c];
-        length = make_sheets(count);
-        row("pack, ascending", count, time_pack(proved_pack, ascending, count), time_pack(model_pack, ascending, count));
-        row("pack, shuffled", count, time_pack(proved_pack, shuffled, count), time_pack(model_pack, shuffled, count));
+    make_sheets(count);
+    entries = count;
+    for (int order = 0; order < 2; order++) {
+        sheet = order ? shuffled : ascending;
+        measure(packs[order], count, "proved", proved_packs, count, 1);
+        measure(packs[order], count, "plain", model_packs, count, 1);
+        measure(writes[order], count, "proved", proved_writes, 1, 16);
+        measure(writes[order], count, "plain", model_writes, 1, 16);
     }
-    row("write_sheet, of ascending", PEBRASSOLA_MOST_ENTRIES, time_write(proved_write_sheet, ascending, length),
-        time_write(model_write_sheet, ascending, length));
-    row("write_sheet, of shuffled", PEBRASSOLA_MOST_ENTRIES, time_write(proved_write_sheet, shuffled, length),
-        time_write(model_write_sheet, shuffled, length));
 }
 
 int main(void)
 {
-    puts("| call | n | proved, ns | plain C, ns | ratio |\n|---|---|---|---|---|");
-    for (unsigned s = 0; s < SIZES; s++) {
-        unsigned n = sizes[s];
-        size_t size;
-        struct event dear;
-        double proved, plain;
-        record_run(n);
-        size = boot(n, 0, fresh);
-        proved = time_run(proved_deliver, size);
-        plain = time_run(model_deliver, size);
-        row("deliver, typical", n, proved, plain);
-        proved = time_read(proved_read, size);
-        plain = time_read(model_read, size);
-        row("read", n, proved, plain);
-        dear = make_dear(n, dearest(n, size), fresh);
-        proved = time_dear(proved_deliver, size, &dear);
-        plain = time_dear(model_deliver, size, &dear);
-        row("deliver, dearest", n, proved, plain);
-        convert_row("convert, fresh", n, 0);
-        convert_row("convert, dear", n, 1);
-    }
-    puts("\n| call | entries | proved, ns | plain C, ns | ratio |\n|---|---|---|---|---|");
-    sheet_rows();
+    for (unsigned s = 0; s < SIZES; s++) measure_nodes(sizes[s]);
+    for (unsigned s = 0; s < SIZES; s++) measure_old(sizes[s]);
+    measure_sheets(1);
+    measure_sheets(20);
+    measure_sheets(PEBRASSOLA_MOST_ENTRIES);
     return 0;
 }

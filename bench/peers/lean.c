@@ -285,7 +285,8 @@ struct pebrassola_answer lean_boot(const uint8_t *form, size_t form_length, uint
     const uint8_t *serials = form + 8, *end = form + form_length;
     unsigned n, number, found = 0, twice = 0;
     uint32_t own;
-    if (form_length < 8 || get2(form + 2) != 8 || form_length != PEBRASSOLA_FORM_BYTES(form[0])) return answer(PEBRASSOLA_FORM_LAYOUT, 0, 0);
+    if (form_length < 8 || get2(form + 2) != 8 || form_length != PEBRASSOLA_FORM_BYTES(form[0]))
+        return answer(PEBRASSOLA_FORM_LAYOUT, 0, 0);
     n = form[0];
     own = get4(form + 4);
     number = limits(n, form[1]);

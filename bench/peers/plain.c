@@ -209,7 +209,8 @@ struct pebrassola_answer plain_boot(const uint8_t *form, size_t form_length, uin
 {
     struct node p;
     unsigned number;
-    if (form_length < 8 || get2(form + 2) != 8 || form_length != PEBRASSOLA_FORM_BYTES(form[0])) return answer(PEBRASSOLA_FORM_LAYOUT, 0, 0);
+    if (form_length < 8 || get2(form + 2) != 8 || form_length != PEBRASSOLA_FORM_BYTES(form[0]))
+        return answer(PEBRASSOLA_FORM_LAYOUT, 0, 0);
     p.n = form[0];
     p.f = form[1];
     p.own = get4(form + 4);

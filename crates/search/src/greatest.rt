@@ -3,7 +3,7 @@
 use crate::levels::Levels;
 use crate::order::PLACES;
 use crate::order::Passed;
-use crate::order::look;
+use crate::order::cover_at;
 use crate::order::pass;
 use crate::order::placed;
 use crate::order::sort_tops;
@@ -85,7 +85,7 @@ fn walk_down(
     let mut x: u64 = Ticks::COUNT;
     while low < x {
         passed = pass(ys, w, x, passed);
-        let tops = look(b, i, n, kind, w, x, ys, passed);
+        let tops = cover_at(b, i, n, kind, w, x, ys, passed);
         if tops.here < enough {
             x = tops.next;
         } else {

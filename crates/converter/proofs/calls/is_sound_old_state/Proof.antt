@@ -50,7 +50,8 @@ cast-n c = search needs
 -- so the old state is to be judged with the node in hand
 today : (c : tie.After-read-node) →
     let old = now (c .before .before .args .old) in
-    soundState (oldLayout .window) lastTick (stateOf oldLayout old) ≡ soundState window lastTick (stateWith oldLayout (c .read-node .result) old)
+    soundState (oldLayout .window) lastTick (stateOf oldLayout old)
+    ≡ soundState window lastTick (stateWith oldLayout (c .read-node .result) old)
 unfolding stateOf nodeOf
 today c =
     let old = now (c .before .before .args .old) in

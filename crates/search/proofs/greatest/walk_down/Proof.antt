@@ -69,8 +69,8 @@ behind c =
     let rows = rowsAt maskBytes many (now (a .b)) (a .i) in
     behind-next (a .kind) (a .w) (c .before .before .loop .x) rows many (now (a .ys)) (c .pass .result) (stands c)
 
-look-requires : tie.Need-look-requires Inv-loop μ-loop
-look-requires c κs = (omega arith, stands c)
+cover-at-requires : tie.Need-cover-at-requires Inv-loop μ-loop
+cover-at-requires c κs = (omega arith, stands c)
 
 -- ---- too few windows cover the tick in hand
 
@@ -85,12 +85,12 @@ loop-again c =
     let a = c .before .before .before .before .before .before .before .before .before .args in
     let rows = rowsAt maskBytes (a .n) (now (a .b)) (a .i) in
     let l = c .before .before .before .before .before .loop in
-    let tops = c .before .before .look .ensures in
+    let tops = c .before .before .cover-at .ensures in
     let down = next-less (a .w) (a .kind) (l .x) rows (omega arith) in
     let none = none-covered (a .w) (a .kind) (a .m) (a .low) rows (l .x) (l .inv .0) (omega arith) in (
       λ t p. none t (omega (arith, p, tops .next)),
       omega (arith, down, tops .next),
-      behind (c .before .before .before) (c .before .before .look .result .next) (omega (arith, down, tops .next)),
+      behind (c .before .before .before) (c .before .before .cover-at .result .next) (omega (arith, down, tops .next)),
     )
 
 -- ---- enough do: their masks are looked at
@@ -192,7 +192,7 @@ walk-down-spec =
     countable-requires
     loop-holds
     pass-requires
-    look-requires
+    cover-at-requires
     loop-less
     loop-again
     scan-requires

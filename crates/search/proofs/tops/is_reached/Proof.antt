@@ -2,7 +2,6 @@
 -- Assumes nothing.
 use borrow.Author.Needs.{needs}
 use mathlib.Core.Path.{ap}
-use Prim.Native.Nat.{ℕ}
 use lib.Dec.{leb}
 use Rattle.search.proofs.tops.is_reached.Statement.{statement}
 use Rattle.search.proofs.tops.is_reached.Tie as tie

@@ -1,7 +1,8 @@
 /*
  * The best that we can do by hand, on the bytes where they lie: one pass over the rows tells all that soundness and the first rule ask,
- * twins are looked for by buckets, a look at the tops tells where a search can find nothing, and after a credit only the ticks that it
- * brought are looked at. After a rule has fired, which few deliveries come to, the rules are asked anew.
+ * twins are looked for by buckets, a look at the tops tells where a search can find nothing, else it walks along the tops in order, and
+ * after a credit only the ticks that it brought are looked at. After a rule has fired, which few deliveries come to, the rules are asked
+ * anew.
  */
 #include "peers.h"
 
@@ -52,7 +53,7 @@ static int stands(const uint8_t *from, const uint8_t *to, size_t apart, uint32_t
     return 0;
 }
 
-/* ---- the greatest tick that m rows hold: down over the tops, and where m rows cover a tick, 64 ticks at a time */
+/* ---- the greatest tick that m rows hold: down along the tops in order, and where m rows cover a tick, 64 ticks at a time */
 
 static uint64_t held_by(const uint8_t *sets, unsigned n, unsigned m, uint64_t x)
 {
@@ -82,21 +83,28 @@ static uint64_t held_by(const uint8_t *sets, unsigned n, unsigned m, uint64_t x)
     return over;
 }
 
-/* as tick + 1, at least low + 1; 0 for none */
+/* as tick + 1, at least low + 1; 0 for none. The tops that reach so far are put in order; of the windows that have not ended, m have
+ * begun from the top of the m-th of them on, so that the walk goes there at once. */
 static uint64_t greatest(const uint8_t *sets, unsigned n, unsigned m, uint64_t low)
 {
-    uint64_t x = (uint64_t)1 << 32;
+    uint64_t ys[PEBRASSOLA_MOST_CONTROLLERS], x;
+    unsigned many = 0, begun = 0, ended = 0;
+    for (unsigned i = 0; i < n; i++, sets += ROW) {
+        uint64_t y = (uint64_t)get4(sets) + 1;
+        unsigned k = many;
+        if (y <= low) continue;
+        for (; k > 0 && ys[k - 1] < y; k--) ys[k] = ys[k - 1];
+        ys[k] = y;
+        many++;
+    }
+    sets -= (size_t)ROW * n;
+    x = m <= many ? ys[m - 1] : 0;
     while (low < x) {
-        uint64_t next = 0, over;
-        unsigned here = 0;
-        const uint8_t *s = sets;
-        for (unsigned i = 0; i < n; i++, s += ROW) {
-            uint64_t y = (uint64_t)get4(s) + 1;
-            here += y - x < WINDOW;
-            if (y < x && next < y) next = y;
-        }
-        if (here < m) {
-            x = next;
+        uint64_t over;
+        while (begun < many && ys[begun] >= x) begun++;
+        while (ended < many && ys[ended] >= x + WINDOW) ended++;
+        if (begun - ended < m) {
+            x = ended + m <= many ? ys[ended + m - 1] : 0;
             continue;
         }
         over = held_by(sets, n, m, x);

@@ -11,7 +11,8 @@ use lib.ListN.{length, getD, set}
 use lib.Seq.{getD-set-same, getD-set-other}
 use borrow.Author.Tests.{lt-ltb, le-ltb, ltb-true, eqb-true, eq-eqb, ne-eqb}
 use Rattle.fields.specs.Field.{field, words}
-use Rattle.forms.specs.Column.{howMany, count, twins, ascends, buckets, bucketOf}
+use Rattle.forms.specs.Column.{howMany, count, twins, ascends}
+use Rattle.forms.specs.Tally.{buckets, bucketOf}
 use Rattle.fields.proofs.Words.{words-step, words-end}
 
 -- ---- how many pass a test

@@ -1,7 +1,7 @@
 -- A list looked at through counts, so that its order decides nothing: how many of it pass a test; of a list of numbers how often one
 -- stands in it, and how many pairs are the same number. The serials of a roster and the pack numbers of a sheet are judged by these. In
 -- bytes such a list is a column: 4 apart in a form, a row apart in an image, an entry apart on a sheet.
-use Prim.Native.Nat.{ℕ, _+_, _*_, _/_, _%_, _≤_}
+use Prim.Native.Nat.{ℕ, _+_, _*_, _≤_}
 use mathlib.Core.List.{List, [], _∷_}
 use mathlib.Core.Bool.{Bool, true, cond, _&&_}
 use lib.ListN.{length}
@@ -27,17 +27,6 @@ unfoldable pub ascends : List ℕ → Bool
 ascends [] = true
 ascends (x ∷ []) = true
 ascends (x ∷ y ∷ ys) = ltb x y && ascends (y ∷ ys)
-
--- ---- buckets, by which twins are looked for
-
--- how many there are
-abbrev pub buckets : ℕ
-buckets = 256
-
--- the bucket of a number: the top byte of the low word of its product with 2^32 over the golden ratio. Numbers of one fleet or of one
--- list of packs are often near each other, and those fall far apart. Which bucket it is decides how long a search takes and no answer.
-unfoldable pub bucketOf : ℕ → ℕ
-bucketOf x = x * 2654435769 / 16777216 % buckets
 
 -- ---- a column in bytes
 

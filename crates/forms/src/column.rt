@@ -7,10 +7,10 @@ ghost use mathlib.Core.Bool.{cond};
 ghost use lib.Dec.{ltb, eqb};
 ghost use lib.ListN.{length};
 ghost use Rattle.fields.specs.Field.{words};
-ghost use Rattle.forms.specs.Column.{count, ascends as Column·ascends, Column, buckets, bucketOf};
-ghost use Rattle.forms.specs.Tally.{Tallied};
+ghost use Rattle.forms.specs.Column.{count, ascends as Column·ascends, Column};
+ghost use Rattle.forms.specs.Tally.{Tallied, buckets, bucketOf};
 
-// Buckets, by which twins are looked for, and what spreads numbers over them, as specs/Column.antt has them.
+// Buckets, by which twins are looked for, and what spreads numbers over them, as specs/Tally.antt has them.
 const BUCKETS: usize = 256;
 
 const SPREAD: u64 = 2_654_435_769;

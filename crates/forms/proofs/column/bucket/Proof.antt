@@ -3,7 +3,7 @@
 use borrow.Author.Needs.{needs}
 use mathlib.Core.Path.{refl}
 use native.Mathlib.Omega.{arith}
-use Rattle.forms.specs.Column.{bucketOf}
+use Rattle.forms.specs.Tally.{bucketOf}
 use Rattle.forms.proofs.column.bucket.Statement.{statement}
 use Rattle.forms.proofs.column.bucket.Tie as tie
 

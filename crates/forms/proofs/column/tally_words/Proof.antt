@@ -11,7 +11,8 @@ use native.Mathlib.Omega.{arith}
 use denote.Ref.{now}
 use lib.ListN.{length, replicate, length-set, set, getD}
 use Rattle.fields.specs.Field.{words}
-use Rattle.forms.specs.Column.{mostColumn, count, twins, buckets}
+use Rattle.forms.specs.Column.{mostColumn, count, twins}
+use Rattle.forms.specs.Tally.{buckets}
 use Rattle.fields.proofs.Words.{size-step, words-end}
 use Rattle.forms.proofs.Columns.{count-end, count-up, twins-end, twins-up, Met, met-none, met-up}
 use Rattle.forms.proofs.column.tally_words.Statement.{statement}

@@ -1,6 +1,6 @@
 #!/usr/bin/env python3
-"""The edges of document 01 on fields, forms, frames, masks, sets of ticks and rows, with the flag of request A2, the full f of A7 and the
-window of A8, from the papers alone: forms and frames are bytes made of their fields, a mask is an int, a set of ticks is a Python set of
+"""The edges of document 01 on fields, forms, frames, masks, sets of ticks and rows, with the flag of request A2, the full f of A7, the
+window of A8 and the early stop of A12, from the papers alone: forms and frames are bytes made of their fields, a mask is an int, a set of ticks is a Python set of
 ints. CASES has the cases; this writes what the program `edges` is given, and what it must print.
 
 usage: tests/model/edges.py stdin > crates/edges/stdin
@@ -14,7 +14,7 @@ BROADCAST, ANSWER = 0, 1                                                        
 # ---- the input: for each case a head, the label and the bytes that the call is given
 
 CALLS = ["half", "word", "long", "form", "serial", "frame", "write form", "write frame", "none", "after", "holds", "proper", "rows", "row",
-         "holders", "greatest", "store", "bit", "word at", "below", "up", "cut", "mark"]   # numbered from 0
+         "ask", "greatest", "store", "bit", "word at", "below", "up", "cut", "mark"]   # numbered from 0
 WORDS = ["room", "count", "serial", "kind", "flag", "tick", "last", "top"]             # of a head, 0 where a call has no use for one
 
 
@@ -246,8 +246,12 @@ def show_row(held, serial):
 NAMES = {INIT: "init", ECHO: "echo"}
 
 
-def show_holders(held, kind, tick):
-    return case("holders", f"holders of {NAMES[kind]}: {tick}", [holders(held, kind, tick)], rows(held), kind=kind, tick=tick)
+def show_asked(held, kind, tick, m, where=""):
+    """Whether m rows hold a tick: read are as few as leave no other answer, whatever the others hold."""
+    held_by = [tick in of[kind] for of in held.values()]
+    read = next(r for r in range(len(held) + 1) if sum(held_by[:r]) >= m or sum(held_by[:r]) + len(held_by[r:]) < m)
+    answer = "yes" if holders(held, kind, tick) >= m else "no"
+    return case("ask", f"{NAMES[kind]} {tick} by {m}{where}:", [answer, read], rows(held), kind=kind, tick=tick, count=m)
 
 
 def show_greatest(held, kind, m, low, where=""):
@@ -441,14 +445,20 @@ CASES = [
     show_rows("rows", []),
     show_rows("rows after W8", W8),
     *(show_row(HELD, serial) for serial in (11, 22, 33, 44, 99)),
-    *(show_holders(HELD, ECHO, tick) for tick in range(8)),
-    *(show_holders(HELD, INIT, tick) for tick in range(2)),
+    *(show_asked(HELD, ECHO, tick, m) for tick in (0, 1, 4, 6) for m in range(6)),
+    *(show_asked(HELD, INIT, 1, m) for m in (1, 2, 3)),
+    show_asked(HELD, ECHO, 7, 1),
+    # the same rows from the last up: the answers stay, and how many rows are read does not
+    *(show_asked(dict(reversed(HELD.items())), ECHO, tick, m, ", last row first")
+      for tick in (1, 4) for m in (1, 2, 3, 4)),
+    *(show_asked({}, ECHO, 0, m, " of no rows") for m in (0, 1)),
+    show_asked(HELD, ECHO, 0, 2**32 - 1),
     *(show_greatest(HELD, ECHO, m, low) for m, low in [(2, 0), (2, 3), (2, 5), (2, 6), (2, 7), (1, 0), (4, 0), (5, 0)]),
     *(show_greatest(HELD, INIT, m, low) for m, low in [(1, 0), (2, 1), (3, 0)]),
     show_rows("rows after 22 init 1 again", AGAIN),
     show_rows("rows after 99 echo 5", STRANGER),
     *(show_rows(f"rows after 22 echo {tick}", events) for tick, events in LEAPS.items()),
-    *(show_holders(credited(LEAPS[133]), ECHO, tick) for tick in (6, 5)),
+    *(show_asked(credited(LEAPS[133]), ECHO, tick, m) for tick in (6, 5) for m in (1, 2)),
     # one tick that two hold, in either word of each
     *(apart(one, other) for one in (0, 63, 64, 65, 126, 127, 128) for other in (0, 100)),
     *(apart(127, 64, low) for low in (1000, 1001)),

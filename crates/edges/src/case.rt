@@ -10,7 +10,6 @@ use crate::set;
 use crate::set::WINDOW;
 use crate::write;
 use evidence::rows::ROW;
-use evidence::rows::count_holders;
 use fields::field::half;
 use fields::field::long;
 use fields::field::word;
@@ -88,7 +87,7 @@ fn call_evidence(number: u32, case: Case, b: &[u8]) {
         11 => set::show_proper(s),
         12 => row::show(b),
         13 => row::find(case.serial, b),
-        14 => say::number(count_holders(b, 0, n, case.kind, WINDOW, case.tick) as u64),
+        14 => row::ask(case.kind, case.tick, m, b),
         15 => say::number(find_greatest(b, 0, n, case.kind, WINDOW, m, case.value)),
         _ => call_mask(number, held, case.count),
     }

@@ -1,6 +1,7 @@
-// Rows in lent bytes: four rows with frames credited to their senders, and where a serial stands.
+// Rows in lent bytes: four rows with frames credited to their senders, where a serial stands, and whether m rows hold a tick.
 use crate::say;
 use crate::set::WINDOW;
+use evidence::early::decide;
 use evidence::rows::Found;
 use evidence::rows::ROW;
 use evidence::rows::credit_row;
@@ -50,4 +51,10 @@ pub(crate) fn find(serial: u32, rows: &[u8]) {
             io::write_all(1, b" nowhere");
         }
     }
+}
+
+pub(crate) fn ask(kind: u32, tick: u32, m: usize, rows: &[u8]) {
+    let told = decide(rows, 0, rows.len() / ROW, kind, WINDOW, tick, m);
+    say::yes_or_no(told.held);
+    say::number(told.read as u64);
 }

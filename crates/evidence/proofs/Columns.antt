@@ -2,19 +2,20 @@
 -- Assumes nothing.
 use mathlib.Core.Path.{_≡_, refl, ap, ap₂, _∙_}
 use mathlib.Core.Bool.{true, false, cond, _&&_, and-false}
-use mathlib.Core.List.{List, []}
+use mathlib.Core.List.{List, [], _∷_}
 use Prim.Native.Nat.{ℕ, zero, suc, _+_, _-_, _≤_, _<_}
 use native.Mathlib.Omega.{arith}
 use borrow.Author.Tests.{eq-eqb, ne-eqb}
 use lib.Dec.{eqb}
+use lib.ListN.{length}
 use Rattle.fields.specs.Field.{field, Bytes}
 use Rattle.fields.proofs.Fields.{field-lt}
 use Rattle.sets.specs.Sets.{tickCount}
 use Rattle.sets.specs.Ticks.{Held, holds}
 use Rattle.sets.proofs.Members.{holds-above, holds-le}
 use Rattle.evidence.specs.Holders.{holders, oneOn, placeOf}
-use Rattle.evidence.specs.Rows.{rowSize, echoPlace, initPlace, setOf, setPlace, setAt, rowAt, rowsAt, properSet, properRows}
-use Rattle.evidence.proofs.Layouts.{rows-down, set-of-row}
+use Rattle.evidence.specs.Rows.{Row, rowSize, echoPlace, initPlace, setOf, setPlace, setAt, rowAt, rowsAt, properSet, properRows}
+use Rattle.evidence.proofs.Layouts.{rows-down, length-rows, set-of-row}
 
 -- ---- the first row, and those behind it
 
@@ -72,11 +73,13 @@ none-left mb zero b i e = refl
 none-left mb (suc n) b i e = absurd (omega arith)
 
 -- a row counts once
+pub holders-few : (w kind t : ℕ) (rows : List Row) → holders w kind t rows ≤ length rows
+unfolding holders
+holders-few w kind t [] = omega arith
+holders-few w kind t (row ∷ rows) = omega (arith, holds-le w (setOf kind row) t, holders-few w kind t rows)
+
 pub holders-most : (w kind t mb n : ℕ) (b : List ℕ) (i : ℕ) → holders w kind t (rowsAt mb n b i) ≤ n
-unfolding holders rowsAt
-holders-most w kind t mb zero b i = omega arith
-holders-most w kind t mb (suc n) b i =
-    omega (arith, holds-le w (setOf kind (rowAt mb b i)) t, holders-most w kind t mb n b (i + rowSize mb))
+holders-most w kind t mb n b i = omega (arith, holders-few w kind t (rowsAt mb n b i), length-rows mb n b i)
 
 pub holders-end : (w kind t mb n : ℕ) (b : List ℕ) (i : ℕ) → n ≡ 0 → holders w kind t (rowsAt mb n b i) ≡ 0
 unfolding holders

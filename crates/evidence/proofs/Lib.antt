@@ -1,7 +1,9 @@
 -- The laws and theorems of `evidence` that belong to no single function.
+mod Examples
 pub mod Columns
 pub mod Credits
 pub mod Down
+pub mod Earliest
 pub mod Encoded
 pub mod Frames
 pub mod Greatest

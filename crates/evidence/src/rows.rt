@@ -10,7 +10,7 @@ ghost use mathlib.Core.Path.{_≡_};
 ghost use Prim.Native.Nat.{_+_, _*_, _≤_, _<_};
 ghost use lib.ListN.{length};
 ghost use Rattle.evidence.specs.Asked.{MayCredit};
-ghost use Rattle.evidence.specs.Holders.{holders, placeOf, foundBy};
+ghost use Rattle.evidence.specs.Holders.{placeOf, foundBy};
 ghost use Rattle.evidence.specs.Rows.{setBytes, rowBytes, setPlace, setAt, putSet, rowsAt, rowWith, putRow, putRows};
 ghost use Rattle.evidence.specs.Rows.{credit, properSet, properRows};
 ghost use Rattle.sets.specs.Sets.{maskBytes, maskBits, heldBy};
@@ -85,23 +85,6 @@ pub fn find_row(b: &[u8], i: usize, n: usize, serial: u32) -> Found
         k += 1;
     }
     Found::Nowhere
-}
-
-// How many of the n rows from i on hold (kind, t).
-pub fn count_holders(b: &[u8], i: usize, n: usize, kind: u32, w: u32, t: u32) -> usize
-    requires { ⌜ (i + n * rowBytes ≤ length (now b)) × (w ≤ maskBits) ⌝ }
-    ensures { λ r. ⌜ (r ≡ holders w kind t (rowsAt maskBytes n (now (b .entry)) i)) × (r ≤ n) ⌝ }
-{
-    let place = set_place(kind);
-    let mut found: usize = 0;
-    let mut at = i;
-    let mut left = n;
-    while 0 < left {
-        found += read_set(b, at + place).holds(w, t) as usize;
-        at += ROW;
-        left -= 1;
-    }
-    found
 }
 
 // Credits the frame (kind, j) to the row of a serial.

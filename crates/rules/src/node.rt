@@ -4,7 +4,7 @@
 use crate::record::RECORD;
 use crate::record::put_answer;
 use crate::record::put_broadcast;
-use evidence::rows::count_holders;
+use evidence::early::decide;
 use evidence::rows::credit_row;
 use fields::kind::ECHO;
 use fields::kind::INIT;
@@ -114,14 +114,10 @@ impl Node {
         let f = self.faults as usize;
         let enough = f + 1;
         if self.sent < k {
-            let inits = count_holders(b, i, n, INIT, Node::WINDOW, k);
-            if enough <= inits {
+            if decide(b, i, n, INIT, Node::WINDOW, k, enough).held {
                 return true;
             }
-            let echoes = count_holders(b, i, n, ECHO, Node::WINDOW, k);
-            if enough <= echoes {
-                return true;
-            }
+            return decide(b, i, n, ECHO, Node::WINDOW, k, enough).held;
         }
         false
     }
@@ -135,7 +131,7 @@ impl Node {
         let k = self.tick;
         let enough = n - self.faults as usize;
         if k < Node::LAST_TICK {
-            return enough <= count_holders(b, i, n, ECHO, Node::WINDOW, k);
+            return decide(b, i, n, ECHO, Node::WINDOW, k, enough).held;
         }
         false
     }

@@ -10,7 +10,7 @@ use crate::order::sort_tops;
 use crate::scan::less;
 use crate::scan::scan;
 use crate::scan::view;
-use evidence::rows::count_holders;
+use evidence::early::decide;
 use sets::mask::Mask;
 use sets::ticks::Ticks;
 ghost use mathlib.Core.Path.{_≡_};
@@ -37,7 +37,7 @@ fn better(b: &[u8], i: usize, n: usize, kind: u32, w: u32, m: usize, s: Ticks, b
         }
         let t = (x - 1) as u32;
         if s.holds(w, t) == 1 {
-            if m <= count_holders(b, i, n, kind, w, t) {
+            if decide(b, i, n, kind, w, t, m).held {
                 return x;
             }
         }

@@ -120,6 +120,18 @@ impl Mask {
         }
     }
 
+    // Bit d of the mask in the bytes at i: the word that has it is read, and not the other.
+    pub fn bit_in(b: &[u8], i: usize, d: u32) -> u32
+        requires { ⌜ (i + maskBytes ≤ length (now b)) × (d < maskBits) ⌝ }
+        ensures { λ r. ⌜ (r ≡ bit (field maskBytes (now (b .entry)) i) d) × (r ≤ 1) ⌝ }
+    {
+        if d < Mask::WORD {
+            ((long(b, i + Mask::WORD_BYTES) >> d) % 2) as u32
+        } else {
+            ((long(b, i) >> (d - Mask::WORD)) % 2) as u32
+        }
+    }
+
     // The word that begins at bit i.
     pub fn word_at(self, i: u32) -> u64
         requires { ⌜ i < maskBits ⌝ }

@@ -8,7 +8,7 @@ use mathlib.Core.Bool.{Bool, false, _&&_, and-false}
 use mathlib.Core.List.{List}
 use Prim.Native.Nat.{ℕ, _+_, _-_, _≤_, _<_, max}
 use native.Mathlib.Omega.{arith}
-use borrow.Author.Tests.{eq-eqb, ne-eqb, le-leb, lt-leb}
+use borrow.Author.Tests.{eq-eqb, ne-eqb}
 use lib.Dec.{eqb, leb}
 use denote.Ref.{now}
 use Rattle.sets.specs.Sets.{maskBytes, heldBy}
@@ -16,6 +16,7 @@ use Rattle.sets.specs.Ticks.{holds}
 use Rattle.sets.specs.declared.ticks.Ticks.{Ticks}
 use Rattle.evidence.specs.Holders.{holders, firstDown, shared, bestOf}
 use Rattle.evidence.specs.Rows.{rowsAt}
+use Rattle.evidence.proofs.Earliest.{full-told}
 use Rattle.evidence.proofs.Down.{down-stop, down-end, down-hit, down-miss}
 use Rattle.search.proofs.greatest.better.Statement.{statement}
 use Rattle.search.proofs.greatest.better.Tie as tie
@@ -73,8 +74,8 @@ cast-t c = omega arith
 holds-requires : tie.Need-holds-requires Inv-loop μ-loop
 holds-requires c κs = search needs
 
-count-holders-requires : tie.Need-count-holders-requires Inv-loop μ-loop
-count-holders-requires c κs = search needs
+decide-requires : tie.Need-decide-requires Inv-loop μ-loop
+decide-requires c κs = search needs
 
 returns-2 : tie.Need-returns-2 Inv-loop μ-loop
 unfolding bestOf
@@ -84,10 +85,10 @@ returns-2 c =
     let l = c .before .before .before .before .before .before .before .before .loop in
     let x = c .before .before .before .before .before .less .result in
     let here : x ≡ a .s .top + 1 - (a .w - l .left) = c .before .before .before .before .before .less .ensures in
-    let many = holders (a .w) (a .kind) (x - 1) (rowsAt maskBytes (a .n) (now (a .b)) (a .i)) in
     let own = sym (c .before .before .before .holds .ensures .0) ∙ c .before .before .if2 .taken in
     let held = eq-eqb (holds (a .w) (heldBy (a .s)) (x - 1)) 1 own in
-    let enough = le-leb (a .m) many (omega (arith, c .if3 .taken, c .before .count-holders .ensures .0)) in
+    let rows = rowsAt maskBytes (a .n) (now (a .b)) (a .i) in
+    let enough = full-told (a .w) (a .kind) (x - 1) (a .m) rows (c .before .decide .ensures) ∙ c .if3 .taken in
     let hit = down-hit goes (a .best) (l .left) x (omega arith) (omega arith) (ap₂ (λ (p q : Bool). p && q) held enough) in
     omega (arith, l .inv .0, hit, ap (firstDown goes (a .best) (l .left)) here)
 
@@ -109,11 +110,11 @@ missed :
 missed c =
     let a = c .before .before .before .before .before .before .before .before .args in
     let t = c .before .before .before .less .result - 1 in
-    let many = holders (a .w) (a .kind) t (rowsAt maskBytes (a .n) (now (a .b)) (a .i)) in
+    let rows = rowsAt maskBytes (a .n) (now (a .b)) (a .i) in
     let own = eqb (holds (a .w) (heldBy (a .s)) t) 1 in
     ⊎-elim
-    (λ v. ap (λ (q : Bool). own && q) (lt-leb (a .m) many (omega (arith, v .2 .left, v .1 .ensures .0))) ∙ and-false own)
-    (λ v. ap (λ (p : Bool). p && leb (a .m) many)
+    (λ v. ap (λ (q : Bool). own && q) (full-told (a .w) (a .kind) t (a .m) rows (v .1 .ensures) ∙ v .2 .left) ∙ and-false own)
+    (λ v. ap (λ (p : Bool). p && leb (a .m) (holders (a .w) (a .kind) t rows))
     (ne-eqb (holds (a .w) (heldBy (a .s)) t) 1 (λ e. v .left (c .before .holds .ensures .0 ∙ e))))
     (c .if2 .came)
 
@@ -154,7 +155,7 @@ better-spec =
     sub-t
     cast-t
     holds-requires
-    count-holders-requires
+    decide-requires
     returns-2
     sub-left
     loop-less

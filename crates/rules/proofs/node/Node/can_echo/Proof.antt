@@ -1,15 +1,15 @@
--- `Node::can_echo` meets its contract: where echo k is unsent the two counts decide, one after the other.
+-- `Node::can_echo` meets its contract: where echo k is unsent the two questions decide, one after the other.
 -- Assumes nothing.
 use borrow.Author.Needs.{needs}
-use mathlib.Core.Path.{_≡_}
-use mathlib.Core.Bool.{true, false, _&&_, and-false}
-use Prim.Native.Nat.{ℕ, _+_, _≤_, _<_}
+use mathlib.Core.Path.{refl}
+use mathlib.Core.Bool.{and-true, and-false}
+use Prim.Native.Nat.{_+_}
 use native.Mathlib.Omega.{arith}
-use borrow.Author.Tests.{lt-ltb, le-ltb, le-leb, lt-leb}
+use borrow.Author.Tests.{lt-ltb, le-ltb}
 use denote.Ref.{now}
-use lib.Dec.{ltb, leb}
+use Rattle.fields.specs.Kind.{INIT, ECHO}
+use Rattle.evidence.proofs.Earliest.{full-told}
 use Rattle.rules.specs.Describe.{window}
-use Rattle.rules.specs.Rules.{canR1}
 use Rattle.rules.specs.Steps.{rowsFrom}
 use Rattle.rules.proofs.node.Node.can_echo.Statement.{statement}
 use Rattle.rules.proofs.node.Node.can_echo.Tie as tie
@@ -23,64 +23,32 @@ cast-f c = search needs
 add-enough : tie.Need-add-enough
 add-enough c = search needs
 
-count-holders-requires : tie.Need-count-holders-requires
-count-holders-requires c κs = search needs
-
--- the test of R1 and of R2 passes
-held-unsent : (enough held sent k : ℕ) → enough ≤ held → sent < k → (leb enough held && ltb sent k) ≡ true
-held-unsent enough held sent k p q = rw (le-leb enough held p, lt-ltb sent k q)
+decide-requires : tie.Need-decide-requires
+decide-requires c κs = search needs
 
 returns : tie.Need-returns
 returns c =
-    let p = c .before .before .before .before .before .before .before .args .self in
-    rw (
-      ← c .before .count-holders .ensures .0,
-      held-unsent (p .faults + 1) (c .before .count-holders .result) (p .sent) (p .tick) (omega arith) (omega arith),
-    )
-
-count-holders-requires-2 : tie.Need-count-holders-requires-2
-count-holders-requires-2 c κs = search needs
-
--- past the test of inits R1 cannot fire
-no-init : (c : tie.Else2) →
     let a = c .before .before .before .before .before .before .before .args in
-    canR1 window (a .self) (rowsFrom (a .self) (now (a .b)) (a .i)) ≡ false
-no-init c =
-    let p = c .before .before .before .before .before .before .before .args .self in
-    rw (← c .before .count-holders .ensures .0, lt-leb (p .faults + 1) (c .before .count-holders .result) (omega arith))
+    let p = a .self in
+    let inits = full-told window INIT (p .tick) (p .faults + 1) (rowsFrom p (now (a .b)) (a .i)) (c .before .decide .ensures) in
+    rw (inits, c .if2 .taken, lt-ltb (p .sent) (p .tick) (omega arith))
+
+decide-requires-2 : tie.Need-decide-requires-2
+decide-requires-2 c κs = search needs
 
 returns-2 : tie.Need-returns-2
 returns-2 c =
-    let p = c .before .before .before .before .before .before .before .before .before .args .self in
-    rw (
-      no-init (c .before .before),
-      ← c .before .count-holders2 .ensures .0,
-      held-unsent (p .faults + 1) (c .before .count-holders2 .result) (p .sent) (p .tick) (omega arith) (omega arith),
-    )
+    let a = c .before .before .before .before .before .before .before .before .args in
+    let p = a .self in
+    let rows = rowsFrom p (now (a .b)) (a .i) in
+    let inits = full-told window INIT (p .tick) (p .faults + 1) rows (c .before .before .decide .ensures) in
+    let echoes = full-told window ECHO (p .tick) (p .faults + 1) rows (c .decide2 .ensures) in
+    rw (inits, c .before .if2 .left, echoes, lt-ltb (p .sent) (p .tick) (omega arith), and-true) refl
 
 returns-3 : tie.Need-returns-3
 returns-3 c =
-    let p = c .before .before .before .before .before .before .before .before .before .args .self in
-    rw (
-      no-init (c .before .before),
-      ← c .before .count-holders2 .ensures .0,
-      lt-leb (p .faults + 1) (c .before .count-holders2 .result) (omega arith),
-    )
-
-returns-4 : tie.Need-returns-4
-returns-4 c =
     let p = c .before .before .before .before .before .args .self in simp (le-ltb (p .sent) (p .tick) (omega arith), and-false)
 
 pub can-echo-spec : {M : Type 1} → statement M
 can-echo-spec =
-    tie.close
-    (tie.spec
-    cast-n
-    cast-f
-    add-enough
-    count-holders-requires
-    returns
-    count-holders-requires-2
-    returns-2
-    returns-3
-    returns-4)
+    tie.close (tie.spec cast-n cast-f add-enough decide-requires returns decide-requires-2 returns-2 returns-3)

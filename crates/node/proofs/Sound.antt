@@ -27,7 +27,8 @@ use Rattle.rules.specs.Rules.{firstRule}
 use Rattle.rules.specs.declared.node.Rule.the-variants.{Rest}
 use Rattle.rules.proofs.Firing.{rest-true}
 use Rattle.node.proofs.Images.{six-true, fixed-facts}
-use Rattle.rules.specs.Steps.{RowsIn}
+use Rattle.rules.specs.Steps.{rowsFrom, RowsIn}
+use Rattle.rules.specs.Describe.{window}
 
 -- ---- a sound state and a sound image, as facts
 
@@ -146,3 +147,7 @@ module _ (last : ℕ) (b : List ℕ) (h : SoundBytes layout last b) where
 
   pub sound-once : (port : ℕ) → count port (rosterIn layout b) ≤ 1
   sound-once port = count-once port (rosterIn layout b) (roster-twins (getD b 1 0) (field 4 b ownPlace) (rosterIn layout b) sound-roster)
+
+  pub sound-rest : firstRule window last (rowsFrom (nodeOf b) b headerSize) (nodeOf b) ≡ Rest
+  unfolding stateOf nodeOf
+  sound-rest = h .node .rest

@@ -68,7 +68,7 @@ rule-same v w last rows others same p =
 
 abbrev pub Told : ℕ → ℕ → List Row → Node → Rule → Type 0
 Told w last rows p Rest =
-    (canR2 w p rows ≡ false) × (canR3 w last p rows ≡ false) × (jumpTo w p rows ≡ 0) × (wakeAt w p rows ≡ 0)
+    (canR2 w p rows ≡ false) × (canR3 w last p rows ≡ false) × (jumpTo w p rows ≡ 0) × (wakeAt w p rows ≡ 0) × (canR1 w p rows ≡ false)
 Told w last rows p Echo = p .sent < p .tick
 Told w last rows p Tick = (p .lines - p .faults ≤ holders w ECHO (p .tick) rows) × (p .tick < last)
 Told w last rows p (Jump l) = jumpTo w p rows ≡ suc l
@@ -108,7 +108,7 @@ told w last rows p =
         (leb-true (p .lines - p .faults) (holders w ECHO (p .tick) rows) (both .0), ltb-true (p .tick) last (both .1))
     go false e false f false g (suc l) h x i = h
     go false e false f false g zero h (suc x) i = woke x (eqb (p .mode) 0) refl i
-    go false e false f false g zero h zero i = (f, g, h, i)
+    go false e false f false g zero h zero i = (f, g, h, i, e)
 
 pub wake-told : (w last : ℕ) (rows : List Row) (p : Node) (x : ℕ) → Told w last rows p (Wake x) → wakeAt w p rows ≡ suc x
 wake-told w last rows p x t = rw (eq-eqb (p .mode) 0 (t .0)) (t .1)

@@ -1,4 +1,5 @@
 -- The laws of `rules` that belong to no single function.
+pub mod AfterFrame
 pub mod Answering
 pub mod AtRest
 pub mod Clock

@@ -4,15 +4,17 @@ use Prim.Native.Nat.{ℕ, _+_, _*_, _≤_, _<_}
 use mathlib.Core.Path.{_≡_}
 use mathlib.Core.Bool.{Bool, _||_}
 use mathlib.Core.List.{List}
+use lib.Dec.{eqb}
 use lib.ListN.{length}
 use Rattle.fields.specs.Field.{words}
+use Rattle.fields.specs.Kind.{ECHO}
 use Rattle.forms.specs.Column.{count}
 use Rattle.sets.specs.Sets.{maskBytes}
-use Rattle.evidence.specs.Rows.{Row, rowBytes, rowsAt, putRows}
+use Rattle.evidence.specs.Rows.{Row, rowBytes, rowsAt, putRows, credit}
 use Rattle.rules.specs.Delivery.{State, Delivered}
-use Rattle.rules.specs.Describe.{window, mostFirings, room}
+use Rattle.rules.specs.Describe.{window, lastTick, mostFirings, room}
 use Rattle.rules.specs.Record.{Outgoing, recordSize, putRecords}
-use Rattle.rules.specs.Rules.{canR1, canR2, jumpTo, wakeAt, orJump, orWake, Settled}
+use Rattle.rules.specs.Rules.{canR1, canR2, jumpTo, wakeAt, orJump, orWake, firstRule, Settled}
 use Rattle.rules.specs.declared.node.Next.{Next}
 use Rattle.rules.specs.declared.node.Node.{Node}
 use Rattle.rules.specs.declared.node.Rule.{Rule}
@@ -40,6 +42,22 @@ canEcho p rows = canR1 window p rows || canR2 window p rows
 abbrev pub jumpOrWake : Node → List Row → Rule
 jumpOrWake p rows = orJump (jumpTo window p rows) (orWake (wakeAt window p rows))
 
+-- ---- after a frame
+
+-- the rows just after a frame of tick j was credited, an echo or an init, to a node that was at rest before: so near to rest a few
+-- questions tell the first rule
+pub record JustCredited (w last : ℕ) (p : Node) (rows : List Row) (echo : Bool) (j : ℕ) : Type 0 where
+  pub before : List Row
+  pub rest : firstRule w last before p ≡ Rest
+  pub port : ℕ
+  pub kind : ℕ
+  pub which : eqb kind ECHO ≡ echo
+  pub after : rows ≡ credit w port kind j before
+
+-- the same of rows in the buffer, in the window and up to the last tick of the node
+abbrev pub CreditedIn : Node → List ℕ → ℕ → Bool → ℕ → Type 0
+CreditedIn p b i echo j = RowsIn p b i × JustCredited window lastTick p (rowsFrom p b i) echo j
+
 -- ---- firing one
 
 -- what a rule that can fire says of the node: below the last tick before a tick, and no jump to 0
@@ -57,12 +75,13 @@ pub record SentAs (most : ℕ) (sent : List Outgoing) (start : ℕ) (out : List 
   pub few : n ≤ start + most
   pub bytes : after ≡ putRecords out (recordSize * start) sent
 
--- ---- settling, behind an answer or none
+-- ---- settling, behind an answer or none, from a first rule that the caller knows
 
-pub record CanSettle (p : Node) (b : List ℕ) (i : ℕ) (out : List ℕ) (start : ℕ) : Type 0 where
+pub record CanSettle (p : Node) (b : List ℕ) (i : ℕ) (out : List ℕ) (start : ℕ) (rule : Rule) : Type 0 where
   pub rows : RowsIn p b i
   pub space : room ≤ length out
   pub answers : start ≤ 1
+  pub first : rule ≡ firstRule window lastTick (rowsFrom p b i) p
 
 pub record SettledAs (s : Settled) (start : ℕ) (out : List ℕ) (r : Next) (after : List ℕ) : Type 0 where
   pub node : r .node ≡ s .node
@@ -70,12 +89,13 @@ pub record SettledAs (s : Settled) (start : ℕ) (out : List ℕ) (r : Next) (af
   pub fired : r .fired ≡ s .firings
   pub allowed : r .fired ≤ mostFirings
 
--- ---- a delivery: the port stands in one row at most
+-- ---- a delivery: the port stands in one row at most, and the node is at rest
 
 pub record CanDeliver (p : Node) (b : List ℕ) (i port : ℕ) (out : List ℕ) : Type 0 where
   pub rows : RowsIn p b i
   pub space : room ≤ length out
   pub once : count port (words (p .lines) rowBytes b i) ≤ 1
+  pub rest : firstRule window lastTick (rowsFrom p b i) p ≡ Rest
 
 -- the node that follows, its rows in the buffer, its records, and how many rules fired
 pub record DeliveredAs (d : Delivered) (b : List ℕ) (i : ℕ) (out : List ℕ) (r : Next) (image after : List ℕ) : Type 0 where

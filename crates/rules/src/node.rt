@@ -13,14 +13,18 @@ use forms::frame::Frame;
 use search::greatest::find_greatest;
 use search::tops::is_reached;
 ghost use mathlib.Core.Path.{_≡_};
+ghost use mathlib.Core.Bool.{true, false, _&&_};
 ghost use Prim.Native.Nat.{_+_, _*_, _≤_, max};
+ghost use lib.Dec.{eqb};
 ghost use lib.ListN.{length};
+ghost use Rattle.fields.specs.Kind.{ECHO};
 ghost use Rattle.rules.specs.Describe.{window, lastTick, mostFirings, freshNode};
 ghost use Rattle.rules.specs.Record.{recordSize};
-ghost use Rattle.rules.specs.Rules.{canR3, firstRule, atRest, woken, fired, said, settle};
+ghost use Rattle.rules.specs.Rules.{canR2, canR3, jumpTo, orJump, unsent, firstRule, atRest, woken, fired, said, settle};
 ghost use Rattle.rules.specs.Delivery.{asks, answer, delivered};
 ghost use Rattle.rules.specs.Steps.{rowsFrom, stateFrom, RowsIn, canEcho, jumpOrWake, CanFire};
-ghost use Rattle.rules.specs.Steps.{SentAs, CanSettle, SettledAs, CanDeliver, DeliveredAs};
+ghost use Rattle.rules.specs.Steps.{SentAs, CreditedIn, CanSettle, SettledAs, CanDeliver, DeliveredAs};
+ghost use Rattle.rules.specs.declared.node.Rule.the-variants.{Rest};
 
 // The rule that fires next: none, R1 or R2, R3, R4 to tick l, R5 at tick x.
 pub enum Rule {
@@ -173,6 +177,104 @@ impl Node {
         self.jump_or_wake(b, i)
     }
 
+    // Whether (init, j) is what echo k waits for: j is k, and echo k is unsent.
+    fn awaits_init(self, j: u32) -> bool
+        ensures { λ r. ⌜ r ≡ (eqb j (self .tick) && unsent self) ⌝ }
+    {
+        if j == self.tick {
+            return self.sent < j;
+        }
+        false
+    }
+
+    // R2 alone: echo k is unsent, and (echo, k) is held by f + 1.
+    fn can_echo_by_echoes(self, b: &[u8], i: usize) -> bool
+        requires { ⌜ RowsIn self (now b) i ⌝ }
+        ensures { λ r. ⌜ r ≡ canR2 window self (rowsFrom self (now (b .entry)) i) ⌝ }
+    {
+        let n = self.lines as usize;
+        let k = self.tick;
+        let enough = self.faults as usize + 1;
+        if self.sent < k {
+            return decide(b, i, n, ECHO, Node::WINDOW, k, enough).held;
+        }
+        false
+    }
+
+    // R4 after an echo of tick j: no tick but j, j - 1 and j - 2 can be new, so no other is looked at.
+    fn jump_near(self, b: &[u8], i: usize, j: u32) -> Rule
+        requires { ⌜ CreditedIn self (now b) i true j ⌝ }
+        ensures { λ r. ⌜ r ≡ orJump (jumpTo window self (rowsFrom self (now (b .entry)) i)) Rest ⌝ }
+    {
+        let n = self.lines as usize;
+        let enough = self.faults as usize + 1;
+        let next = self.tick as u64 + 1;
+        let mut l = j;
+        let mut left: u32 = 3;
+        while 0 < left {
+            if l as u64 <= next {
+                return Rule::Rest;
+            }
+            if decide(b, i, n, ECHO, Node::WINDOW, l, enough).held {
+                return Rule::Jump(l);
+            }
+            l -= 1;
+            left -= 1;
+        }
+        Rule::Rest
+    }
+
+    // The first rule after an echo of tick j: the inits stand still, so R1 and R5 can't be new; and an echo adds no tick above its own.
+    fn rule_after_echo(self, b: &[u8], i: usize, j: u32) -> Rule
+        requires { ⌜ CreditedIn self (now b) i true j ⌝ }
+        ensures { λ r. ⌜ r ≡ firstRule window lastTick (rowsFrom self (now (b .entry)) i) self ⌝ }
+    {
+        if j < self.tick {
+            Rule::Rest
+        } else if self.can_echo_by_echoes(b, i) {
+            Rule::Echo
+        } else if self.can_tick(b, i) {
+            Rule::Tick
+        } else {
+            self.jump_near(b, i, j)
+        }
+    }
+
+    // The first rule after an init of tick j: the echoes stand still, so R2, R3 and R4 can't be new, and j is the one tick to ask for.
+    fn rule_after_init(self, b: &[u8], i: usize, j: u32) -> Rule
+        requires { ⌜ CreditedIn self (now b) i false j ⌝ }
+        ensures { λ r. ⌜ r ≡ firstRule window lastTick (rowsFrom self (now (b .entry)) i) self ⌝ }
+    {
+        let n = self.lines as usize;
+        let enough = self.faults as usize + 1;
+        if self.awaits_init(j) {
+            if decide(b, i, n, INIT, Node::WINDOW, j, enough).held {
+                Rule::Echo
+            } else {
+                Rule::Rest
+            }
+        } else if self.mode == 0 {
+            if decide(b, i, n, INIT, Node::WINDOW, j, enough).held {
+                Rule::Wake(j)
+            } else {
+                Rule::Rest
+            }
+        } else {
+            Rule::Rest
+        }
+    }
+
+    // The first rule after a frame, of a node that was at rest before it: a few questions tell it.
+    fn rule_after(self, b: &[u8], i: usize, frame: Frame) -> Rule
+        requires { ⌜ CreditedIn self (now b) i (eqb (frame .kind) ECHO) (frame .tick) ⌝ }
+        ensures { λ r. ⌜ r ≡ firstRule window lastTick (rowsFrom self (now (b .entry)) i) self ⌝ }
+    {
+        if frame.kind == ECHO {
+            return self.rule_after_echo(b, i, frame.tick);
+        }
+        self.rule_after_init(b, i, frame.tick)
+    }
+
     // The tick that R5 at x takes: the larger of x - 1 and k, where x = 0 keeps k.
     fn woken(self, x: u32) -> u32
         ensures { λ r. ⌜ r ≡ woken self x ⌝ }
@@ -241,17 +343,18 @@ impl Node {
         }
     }
 
-    // Fires the first rule that can until none can, puts the records behind the `start` that are there, and counts the firings.
-    fn settle(self, b: &[u8], i: usize, out: &mut [u8], start: usize) -> Next
-        requires { ⌜ CanSettle self (now b) i (now out) start ⌝ }
+    // Fires the first rule that can until none can, puts the records behind the `start` that are there, and counts the firings. The
+    // caller knows the first rule already, so it is asked for only after a firing.
+    fn settle(self, b: &[u8], i: usize, out: &mut [u8], start: usize, first: Rule) -> Next
+        requires { ⌜ CanSettle self (now b) i (now out) start first ⌝ }
         ensures { λ r. ⌜ SettledAs (settle window lastTick (rowsFrom self (now (b .entry)) i) mostFirings self)
             start (now (out .entry)) r (now (out .exit)) ⌝ }
     {
         let mut node = self;
         let mut records = start;
         let mut fired = 0;
+        let mut rule = first;
         while fired < Node::MOST_FIRINGS {
-            let rule = node.rule(b, i);
             if rule.is_at_rest() {
                 return Next {
                     node,
@@ -262,6 +365,7 @@ impl Node {
             records = node.say(rule, out, records);
             node = node.fire(rule);
             fired += 1;
+            rule = node.rule(b, i);
         }
         Next {
             node,
@@ -284,7 +388,7 @@ impl Node {
         0
     }
 
-    // One delivery: the frame is credited to the port's row, answered where it asks for that, and the rules fire.
+    // One delivery to a node at rest: the frame is credited to the port's row, answered where it asks for that, and the rules fire.
     pub fn deliver(self, b: &mut [u8], i: usize, port: u32, frame: Frame, out: &mut [u8]) -> Next
         requires { ⌜ CanDeliver self (now b) i port (now out) ⌝ }
         ensures { λ r. ⌜ DeliveredAs (delivered window lastTick (stateFrom self (now (b .entry)) i) port frame)
@@ -293,6 +397,7 @@ impl Node {
         let n = self.lines as usize;
         credit_row(b, i, n, Node::WINDOW, port, frame.kind, frame.tick);
         let start = self.answer(port, frame, out);
-        self.settle(b, i, out, start)
+        let first = self.rule_after(b, i, frame);
+        self.settle(b, i, out, start, first)
     }
 }

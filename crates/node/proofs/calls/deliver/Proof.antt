@@ -19,7 +19,7 @@ use Rattle.node.specs.Layout.{layout, headerSize}
 use Rattle.rules.specs.Steps.{DeliveredAs}
 use Rattle.rules.proofs.Clock.{delivered-ordered}
 use Rattle.node.proofs.Outcomes.{deliver-refused}
-use Rattle.node.proofs.Sound.{SoundBytes, sound-bytes, sound-rows, sound-once}
+use Rattle.node.proofs.Sound.{SoundBytes, sound-bytes, sound-rows, sound-once, sound-rest}
 use Rattle.node.proofs.Taken.{told-frame-refused, told-frame, Taken, deliver-taken, frame-whole}
 use Rattle.node.proofs.calls.deliver.Statement.{statement}
 use Rattle.node.proofs.calls.deliver.Tie as tie
@@ -117,6 +117,7 @@ deliver-requires c κs =
       rows = sound-rows lastTick image (sound whole);
       space = taken whole .space;
       once = sound-once lastTick image (sound whole) _;
+      rest = sound-rest lastTick image (sound whole);
     })
 
 -- what the engine promises is the delivery of the definition

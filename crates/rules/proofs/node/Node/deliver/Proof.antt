@@ -1,4 +1,5 @@
--- `Node::deliver` meets its contract: the rows that the rules look at are the credited ones, and what is said goes behind the answer.
+-- `Node::deliver` meets its contract: the rows that the rules look at are the credited ones, of a node that was at rest before, and what is
+-- said goes behind the answer.
 -- Assumes nothing.
 use borrow.Author.Needs.{needs}
 use mathlib.Core.Path.{_≡_, refl}
@@ -32,15 +33,6 @@ credit-row-requires c κs = search needs
 answer-requires : tie.Need-answer-requires
 answer-requires c κs = search needs
 
-settle-requires : tie.Need-settle-requires
-settle-requires c κs = search needs
-
-same-length : tie.Need-same-length
-same-length c = search needs
-
-same-length-2 : tie.Need-same-length-2
-same-length-2 c = search needs
-
 -- the bytes that the credit left: the frame stands in the port's row
 stored : (c : tie.After-credit-row) →
     let a = c .before .before .before .before .before .args in
@@ -60,6 +52,32 @@ kept c =
     (credit-read-back maskBytes maskBits window refl (omega arith) (omega arith) (a .port) (a .frame .kind) (a .frame .tick)
     (a .self .lines) (now (a .b)) (a .i) (λ k. c .before .before .before .before .slice-known .given k .fits)
     (omega (arith, start .good .1 .1 .1 .1 .0)) (start .pre .rows .inside))
+
+-- they are those that the frame left, of a node that was at rest
+rule-after-requires : tie.Need-rule-after-requires
+rule-after-requires c κs =
+    let credits = c .before .before .before .before .before .before .before in
+    let start = credits .before .before .before .before .before in
+    let a = start .args in (
+      search needs,
+      record {
+        before = rowsFrom (a .self) (now (a .b)) (a .i);
+        rest = start .pre .rest;
+        port = a .port;
+        kind = a .frame .kind;
+        which = refl;
+        after = kept credits;
+      },
+    )
+
+settle-requires : tie.Need-settle-requires
+settle-requires c κs = search needs
+
+same-length : tie.Need-same-length
+same-length c = search needs
+
+same-length-2 : tie.Need-same-length-2
+same-length-2 c = search needs
 
 -- the count of answers is the delivery's
 answered : (c : tie.After-answer) →
@@ -90,7 +108,7 @@ delivers s port frame rows first h =
 returns : tie.Need-returns
 unfolding settled
 returns c =
-    let answers = c .before .before .before .before .before .before .before in
+    let answers = c .before .before .before .before .before .before .before .before .before in
     let credits = answers .before .before .before .before in
     let a = credits .before .before .before .before .before .args in
     let sent = answers .answer .ensures in
@@ -105,6 +123,7 @@ deliver-spec =
     cast-n
     credit-row-requires
     answer-requires
+    rule-after-requires
     settle-requires
     same-length
     same-length-2

@@ -26,22 +26,25 @@ use Rattle.rules.proofs.node.Node.settle.Tie as tie
 abbrev from : List Row → ℕ → Node → Settled
 from rows c p = settle window lastTick rows c p
 
--- where a turn begins: a node, its count of records and of firings, and what may still fire, against those of the start
-record Settling (rows : List Row) (start : ℕ) (out₀ : List ℕ) (p₀ : Node) (out : List ℕ) (p : Node) (n m left : ℕ) : Type 0 where
-  node : from rows left p .node ≡ from rows mostFirings p₀ .node
-  count : n + length (from rows left p .records) ≡ start + length (from rows mostFirings p₀ .records)
-  bytes :
-      putRecords out (recordSize * n) (from rows left p .records)
-      ≡ putRecords out₀ (recordSize * start) (from rows mostFirings p₀ .records)
-  firings : m + from rows left p .firings ≡ from rows mostFirings p₀ .firings
-  few : n ≤ start + m
-  whole : m + left ≡ mostFirings
-  same : Same p p₀
-  space : length out ≡ length out₀
+-- where a turn begins: a node, its count of records and of firings, and what may still fire, against those of the start; and its first rule
+record Settling (rows : List Row) (start : ℕ) (out₀ : List ℕ) (p₀ : Node) (out : List ℕ) (p : Node) (n m left : ℕ) (rule : Rule) :
+    Type 0
+  where
+    node : from rows left p .node ≡ from rows mostFirings p₀ .node
+    count : n + length (from rows left p .records) ≡ start + length (from rows mostFirings p₀ .records)
+    bytes :
+        putRecords out (recordSize * n) (from rows left p .records)
+        ≡ putRecords out₀ (recordSize * start) (from rows mostFirings p₀ .records)
+    firings : m + from rows left p .firings ≡ from rows mostFirings p₀ .firings
+    few : n ≤ start + m
+    whole : m + left ≡ mostFirings
+    same : Same p p₀
+    space : length out ≡ length out₀
+    first : rule ≡ firstRule window lastTick rows p
 
 module _
-    {rows : List Row} {start : ℕ} {out₀ : List ℕ} {p₀ : Node} {out : List ℕ} {p : Node} {n m left : ℕ}
-    (h : Settling rows start out₀ p₀ out p n m left)
+    {rows : List Row} {start : ℕ} {out₀ : List ℕ} {p₀ : Node} {out : List ℕ} {p : Node} {n m left : ℕ} {rule : Rule}
+    (h : Settling rows start out₀ p₀ out p n m left rule)
   where
     -- at rest all is said
     ended :
@@ -66,12 +69,13 @@ module _
     fires :
         (rest : ℕ)
         → left ≡ suc rest
-        → (rule : Rule)
-        → rule ≡ firstRule window lastTick rows p
         → atRest rule ≡ false
+        → (following : Rule)
+        → following ≡ firstRule window lastTick rows (fired p rule)
         → let after = putRecords out (recordSize * n) (said p rule) in
-        Settling rows start out₀ p₀ after (fired p rule) (n + length (said p rule)) (m + 1) rest
-    fires rest l rule e goes =
+        Settling rows start out₀ p₀ after (fired p rule) (n + length (said p rule)) (m + 1) rest following
+    fires rest l goes following then =
+        let e = h .first in
         let first = firstRule window lastTick rows p in
         let next = from rows rest (fired p first) in
         let down = ap (λ (c : ℕ). from rows c p) l ∙ settle-fires window lastTick rows rest p (rw e at goes) in
@@ -88,14 +92,15 @@ module _
           whole = omega (arith, h .whole);
           same = same-trans (fired-same p first) (h .same);
           space = length-putRecords out (recordSize * n) (said p first) ∙ h .space;
+          first = rw e at then;
         })
 
 abbrev Inv-loop : tie.InvT-loop
-Inv-loop b i out₀ start node₀ records₀ fired₀ out node records fired =
-    Settling (rowsFrom node₀ b i) start out₀ node₀ out node records fired (mostFirings - fired)
+Inv-loop b i out₀ start node₀ records₀ fired₀ rule₀ out node records fired rule =
+    Settling (rowsFrom node₀ b i) start out₀ node₀ out node records fired (mostFirings - fired) rule
 
 abbrev μ-loop : tie.MeasureT-loop
-μ-loop b i out₀ start node₀ records₀ fired₀ out node records fired = mostFirings - fired
+μ-loop b i out₀ start node₀ records₀ fired₀ rule₀ out node records fired rule = mostFirings - fired
 
 loop-holds : tie.Need-loop-holds Inv-loop μ-loop
 loop-holds c =
@@ -108,69 +113,83 @@ loop-holds c =
       whole = refl;
       same = omega arith;
       space = refl;
+      first = c .before .before .pre .first;
     }
-
-rule-requires : tie.Need-rule-requires Inv-loop μ-loop
-rule-requires c κs = omega arith
-
--- the rule is the first that can fire, over the rows as they were at the start
-first : (c : tie.After-rule Inv-loop μ-loop) →
-    let a = c .before .before .before .before .before .args in
-    c .rule .result ≡ firstRule window lastTick (rowsFrom (a .self) (now (a .b)) (a .i)) (c .before .before .loop .node)
-first c =
-    let a = c .before .before .before .before .before .args in
-    let l = c .before .before .loop in
-    c .rule .ensures
-    ∙ ap (λ (n : ℕ). firstRule window lastTick (rowsAt maskBytes n (now (a .b)) (a .i)) (l .node)) (l .inv .same .lines)
-
-can : (c : tie.After-rule Inv-loop μ-loop) → CanFire lastTick (c .before .before .loop .node) (c .rule .result)
-can c =
-    let a = c .before .before .before .before .before .args in
-    let p = c .before .before .loop .node in
-    subst (CanFire lastTick p) (sym (first c)) (can-fire window lastTick (rowsFrom (a .self) (now (a .b)) (a .i)) p)
 
 is-at-rest-requires : tie.Need-is-at-rest-requires Inv-loop μ-loop
 is-at-rest-requires c κs = search needs
 
 same-length : tie.Need-same-length Inv-loop μ-loop
-same-length c = c .before .before .before .before .loop .inv .space
+same-length c = c .before .before .before .loop .inv .space
 
 returns : tie.Need-returns Inv-loop μ-loop
 returns c =
-    let a = c .before .before .before .before .before .before .before .args in
-    let l = c .before .before .before .before .loop in
+    let a = c .before .before .before .before .before .before .args in
+    let l = c .before .before .before .loop in
     let rows = rowsFrom (a .self) (now (a .b)) (a .i) in
-    let rests = rest-true (c .before .before .rule .result) (sym (c .before .is-at-rest .ensures) ∙ c .if1 .taken) in
-    ended (l .inv)
-    (settle-rest window lastTick rows (mostFirings - l .fired) (l .node) (sym (first (c .before .before)) ∙ rests))
+    let rests = rest-true (l .rule) (sym (c .before .is-at-rest .ensures) ∙ c .if1 .taken) in
+    ended (l .inv) (settle-rest window lastTick rows (mostFirings - l .fired) (l .node) (sym (l .inv .first) ∙ rests))
+
+-- the rule of a turn can fire
+can : (c : tie.At-loop Inv-loop μ-loop) → CanFire lastTick (c .loop .node) (c .loop .rule)
+can c =
+    let a = c .before .before .before .args in
+    let l = c .loop in
+    subst (CanFire lastTick (l .node)) (sym (l .inv .first))
+    (can-fire window lastTick (rowsFrom (a .self) (now (a .b)) (a .i)) (l .node))
 
 -- by search, which meets it for any rule: that the rule said is the first one shows in `counted`
 say-requires : tie.Need-say-requires Inv-loop μ-loop
-say-requires c κs = search (needs, can (c .before .before .before))
+say-requires c κs = search (needs, can (c .before .before .before .before))
 
 fire-requires : tie.Need-fire-requires Inv-loop μ-loop
-fire-requires c κs = can (c .before .before .before .before .before .before)
+fire-requires c κs = can (c .before .before .before .before .before .before .before)
 
 add-fired : tie.Need-add-fired Inv-loop μ-loop
 add-fired c = search needs
+
+-- who the node is stays as it was at the start
+stays : (c : tie.After-fire Inv-loop μ-loop) →
+    let a = c .before .before .before .before .before .before .before .before .before .before .before .args in
+    let l = c .before .before .before .before .before .before .before .before .loop in
+    Same (fired (l .node) (l .rule)) (a .self)
+stays c =
+    let l = c .before .before .before .before .before .before .before .before .loop in
+    same-trans (fired-same (l .node) (l .rule)) (l .inv .same)
+
+rule-requires : tie.Need-rule-requires Inv-loop μ-loop
+rule-requires c κs = rw (c .fire .ensures) (omega (arith, stays c))
 
 loop-less : tie.Need-loop-less Inv-loop μ-loop
 loop-less c = search needs
 
 -- the count goes up by what the rule says
 counted : (c : tie.After-say Inv-loop μ-loop) →
-    let l = c .before .before .before .before .before .before .loop in
-    c .say .result ≡ l .records + length (said (l .node) (c .before .before .before .before .rule .result))
+    let l = c .before .before .before .before .before .loop in
+    c .say .result ≡ l .records + length (said (l .node) (l .rule))
 counted c = omega arith
+
+-- the next rule is the first that can fire, over the rows as they were at the start
+next : (c : tie.After-rule Inv-loop μ-loop) →
+    let fires = c .before in
+    let a = fires .before .before .before .before .before .before .before .before .before .before .before .args in
+    let l = fires .before .before .before .before .before .before .before .before .loop in
+    c .rule .result ≡ firstRule window lastTick (rowsFrom (a .self) (now (a .b)) (a .i)) (fired (l .node) (l .rule))
+next c =
+    let fires = c .before in
+    let a = fires .before .before .before .before .before .before .before .before .before .before .before .args in
+    let l = fires .before .before .before .before .before .before .before .before .loop in
+    (rw (fires .fire .ensures) at (c .rule .ensures))
+    ∙ ap (λ (n : ℕ). firstRule window lastTick (rowsAt maskBytes n (now (a .b)) (a .i)) (fired (l .node) (l .rule))) (stays fires .lines)
 
 loop-again : tie.Need-loop-again Inv-loop μ-loop
 loop-again c =
-    let says = c .before .before .before in
+    let says = c .before .before .before .before in
     let rests = says .before .before .before in
-    let rules = rests .before in
-    rw (c .fire .ensures, counted says, says .say .ensures .bytes)
-    (fires (rules .before .before .loop .inv) _ (omega (arith, rules .before .loop-test .taken)) (rules .rule .result) (first rules)
-    (sym (rests .is-at-rest .ensures) ∙ says .before .before .if1 .left))
+    let l = rests .before .before .loop in
+    rw (c .before .fire .ensures, counted says, says .say .ensures .bytes)
+    (fires (l .inv) _ (omega (arith, rests .before .loop-test .taken)) (sym (rests .is-at-rest .ensures) ∙ says .before .before .if1 .left)
+    (c .rule .result) (next c))
 
 same-length-2 : tie.Need-same-length-2 Inv-loop μ-loop
 same-length-2 c = c .before .loop .inv .space
@@ -190,13 +209,13 @@ settle-spec =
     Inv-loop
     μ-loop
     loop-holds
-    rule-requires
     is-at-rest-requires
     same-length
     returns
     say-requires
     fire-requires
     add-fired
+    rule-requires
     loop-less
     loop-again
     same-length-2

@@ -15,19 +15,19 @@ use Rattle.evidence.proofs.Greatest.{held-place, best-held, best-most, greatest
 use Rattle.sets.proofs.Masks.{bit-out}
 use Rattle.sets.proofs.Members.{holds-at}
 use Rattle.search.specs.Scan.{view, Scanned}
-use Rattle.search.specs.Tops.{manyTops, covers, nextTop}
+use Rattle.search.specs.Tops.{manyTops, CoveredFrom}
 use Rattle.search.proofs.Bits.{bit-none}
-use Rattle.search.proofs.Reaches.{held-reach, held-cover}
+use Rattle.search.proofs.Reaches.{held-reach}
 
 module _ (w kind m low : ℕ) (rows : List Row) where
   -- no tick from x on is held by m rows
   abbrev pub NoneFrom : ℕ → Type 0
   NoneFrom x = (t : ℕ) → x ≤ t → low ≤ t → max 1 m ≤ holders w kind t rows → ⊥
 
-  -- too few windows cover tick x - 1: nor is a tick held from the next top on
-  pub none-covered : (x : ℕ) → NoneFrom x → manyTops (covers w x) kind rows < max 1 m → NoneFrom (nextTop x kind rows)
-  none-covered x above few t p l r =
-      elim (decLt t x) [ no n ↦ above t (omega arith) l r | yes q ↦ omega (arith, r, few, held-cover w kind x t rows q p) ]
+  -- too few hold a tick from there on: nor is one left
+  pub none-covered : (x from : ℕ) → NoneFrom x → CoveredFrom w kind (max 1 m) x rows from → NoneFrom from
+  none-covered x from above covered t p l r =
+      elim (decLt t x) [ no n ↦ above t (omega arith) l r | yes q ↦ omega (arith, r, covered .few t p q) ]
 
   -- from low on nothing is left
   pub none-left : (x : ℕ) → NoneFrom x → x ≤ low → greatest w kind m low rows ≡ 0

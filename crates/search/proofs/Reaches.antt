@@ -19,15 +19,15 @@ use Rattle.search.specs.Tops.{manyTops, covers, nextTop}
 -- ---- a top covers tick x - 1, or is below it, or its window is above it
 
 module _ (w x top : ℕ) where
-  pub covers-here : x ≤ top + 1 → top + 1 < x + w → covers w x top ≡ true
+  covers-here : x ≤ top + 1 → top + 1 < x + w → covers w x top ≡ true
   unfolding covers
   covers-here p q = rw (le-leb x (top + 1) p, lt-ltb (top + 1) (x + w) q)
 
-  pub covers-below : top + 1 < x → covers w x top ≡ false
+  covers-below : top + 1 < x → covers w x top ≡ false
   unfolding covers
   covers-below p = rw (lt-leb x (top + 1) p)
 
-  pub covers-above : x + w ≤ top + 1 → covers w x top ≡ false
+  covers-above : x + w ≤ top + 1 → covers w x top ≡ false
   unfolding covers
   covers-above p = rw (le-leb x (top + 1) (omega arith), le-ltb (top + 1) (x + w) p)
 

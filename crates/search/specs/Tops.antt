@@ -1,11 +1,12 @@
 -- What the tops of the rows tell of the ticks that they may hold, with no mask read, as the joints of the search use it. Numbers like
 -- x and y are tick + 1.
-use Prim.Native.Nat.{ℕ, _+_, max}
+use Prim.Native.Nat.{ℕ, _+_, _≤_, _<_, max}
 use mathlib.Core.Path.{_≡_}
 use mathlib.Core.List.{List, [], _∷_}
 use mathlib.Core.Bool.{Bool, cond, _&&_}
 use lib.Dec.{ltb, leb}
 use Rattle.evidence.specs.Rows.{Row, setOf}
+use Rattle.evidence.specs.Holders.{holders}
 use Rattle.search.specs.declared.tops.Cover.{Cover}
 
 -- how many rows have a top that passes
@@ -28,3 +29,9 @@ nextTop x kind (row ∷ rows) =
 pub record Covered (w kind x : ℕ) (rows : List Row) (r : Cover) : Type 0 where
   pub here : r .here ≡ manyTops (covers w x) kind rows
   pub next : r .next ≡ nextTop x kind rows
+
+-- from there on downwards enough rows may hold a tick: from tick x - 1 as far as there fewer do, and where tick x - 1 is not passed
+-- over, a window is not empty
+pub record CoveredFrom (w kind enough x : ℕ) (rows : List Row) (from : ℕ) : Type 0 where
+  pub few : (t : ℕ) → from ≤ t → t < x → holders w kind t rows < enough
+  pub wide : x ≤ from → 0 < w

@@ -2,8 +2,7 @@
 // that the window fits a mask, which the node has checked before.
 use crate::levels::Levels;
 use crate::order::PLACES;
-use crate::order::Passed;
-use crate::order::cover_at;
+use crate::order::covered_from;
 use crate::order::pass;
 use crate::order::placed;
 use crate::order::sort_tops;
@@ -81,13 +80,13 @@ fn walk_down(
 {
     let enough = at_least_one(m);
     let short = countable(enough);
-    let mut passed = Passed { begun: 0, ended: 0 };
+    let mut ended: usize = 0;
     let mut x: u64 = Ticks::COUNT;
     while low < x {
-        passed = pass(ys, w, x, passed);
-        let tops = cover_at(b, i, n, kind, w, x, ys, passed);
-        if tops.here < enough {
-            x = tops.next;
+        ended = pass(ys, w, x, ended);
+        let from = covered_from(b, i, n, kind, w, enough, x, ys, ended);
+        if from < x {
+            x = from;
         } else {
             let held = scan(b, i, n, kind, w, short, x);
             if held != 0 {

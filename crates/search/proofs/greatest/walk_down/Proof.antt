@@ -1,9 +1,9 @@
 -- `greatest::walk_down` meets its contract: look by look no tick that enough rows hold is left above x.
 -- Assumes nothing.
 use borrow.Author.Needs.{needs}
-use mathlib.Core.Path.{_≡_, sym, ap₂, _∙_}
+use mathlib.Core.Path.{_≡_, sym, ap₂, subst, _∙_}
 use mathlib.Core.Logic.{⊎-elim}
-use Prim.Native.Nat.{ℕ, _≤_, max, min}
+use Prim.Native.Nat.{ℕ, _+_, _-_, _≤_, max, min}
 use native.Mathlib.Omega.{arith}
 use denote.Ref.{now}
 use Rattle.fields.specs.Field.{Bytes}
@@ -11,19 +11,20 @@ use Rattle.sets.specs.Sets.{maskBytes, maskBy, tickCount}
 use Rattle.evidence.specs.Holders.{bestOf}
 use Rattle.evidence.specs.Rows.{rowsAt}
 use Rattle.evidence.proofs.Columns.{holders-far}
-use Rattle.search.specs.Order.{places, StandsAt}
+use Rattle.search.specs.Order.{places, reaching}
+use Rattle.search.specs.Tops.{CoveredFrom}
 use Rattle.search.proofs.Found.{NoneFrom, none-covered, none-left, lookedAt, Looked, none-seen, none-better, found}
-use Rattle.search.proofs.Orders.{Behind, pass-on, behind-next}
-use Rattle.search.proofs.Reaches.{next-less, cover-wide}
+use Rattle.search.proofs.Orders.{reach-down}
 use Rattle.search.proofs.greatest.walk_down.Statement.{statement}
 use Rattle.search.proofs.greatest.walk_down.Tie as tie
 
 abbrev Inv-loop : tie.InvT-loop
-Inv-loop b i n kind w m low ys enough short passed₀ x₀ passed x =
-    NoneFrom w kind m low (rowsAt maskBytes n b i) x × (x ≤ tickCount) × Behind kind w x (rowsAt maskBytes (min n places) b i) passed
+Inv-loop b i n kind w m low ys enough short ended₀ x₀ ended x =
+    NoneFrom w kind m low (rowsAt maskBytes n b i) x × (x ≤ tickCount)
+    × (ended ≤ reaching kind (rowsAt maskBytes (min n places) b i) (x - 1 + w))
 
 abbrev μ-loop : tie.MeasureT-loop
-μ-loop b i n kind w m low ys enough short passed₀ x₀ passed x = x
+μ-loop b i n kind w m low ys enough short ended₀ x₀ ended x = x
 
 at-least-one-requires : tie.Need-at-least-one-requires Inv-loop μ-loop
 at-least-one-requires c κs = search needs
@@ -37,60 +38,54 @@ loop-holds c =
     let bytes : Bytes (now (a .b)) = λ k. c .before .before .shared-slice-known .given k .fits in (
       λ t p l r. omega (arith, r, holders-far (a .w) (a .kind) t maskBytes (a .n) (now (a .b)) (a .i) bytes p),
       omega arith,
-      (omega arith, omega arith),
+      omega arith,
     )
 
 pass-requires : tie.Need-pass-requires Inv-loop μ-loop
 pass-requires c κs = omega arith
 
--- the order is passed down to the tick in hand
-stands :
+-- those that have ended above the tick in hand are told by the order
+passed :
     (c : tie.After-pass Inv-loop μ-loop) →
     let a = c .before .before .before .before .before .before .args in
-    let many = min (a .n) places in
-    let x = c .before .before .loop .x in
-    StandsAt (a .kind) (a .w) x (rowsAt maskBytes many (now (a .b)) (a .i)) many (now (a .ys)) (c .pass .result)
-stands c =
+    c .pass .result ≡ reaching (a .kind) (rowsAt maskBytes (min (a .n) places) (now (a .b)) (a .i)) (c .before .before .loop .x - 1 + a .w)
+passed c =
     let a = c .before .before .before .before .before .before .args in
-    let l = c .before .before .loop in
     let many = min (a .n) places in
-    let rows = rowsAt maskBytes many (now (a .b)) (a .i) in
-    let order = c .before .before .before .before .before .before .pre .order in
-    pass-on (a .kind) (a .w) (l .x) rows many (now (a .ys)) (l .passed) (c .pass .result) (omega arith) order (l .inv .2) (c .pass .ensures)
+    let count = reaching (a .kind) (rowsAt maskBytes many (now (a .b)) (a .i)) in
+    c .pass .ensures count many (c .before .before .before .before .before .before .pre .order) (c .before .before .loop .inv .2)
 
--- and no further than any tick below it
+-- and no fewer have ended above a tick further down
 behind :
     (c : tie.After-pass Inv-loop μ-loop) (z : ℕ) → z ≤ c .before .before .loop .x →
     let a = c .before .before .before .before .before .before .args in
-    Behind (a .kind) (a .w) z (rowsAt maskBytes (min (a .n) places) (now (a .b)) (a .i)) (c .pass .result)
-behind c =
+    c .pass .result ≤ reaching (a .kind) (rowsAt maskBytes (min (a .n) places) (now (a .b)) (a .i)) (z - 1 + a .w)
+behind c z p =
     let a = c .before .before .before .before .before .before .args in
-    let many = min (a .n) places in
-    let rows = rowsAt maskBytes many (now (a .b)) (a .i) in
-    behind-next (a .kind) (a .w) (c .before .before .loop .x) rows many (now (a .ys)) (c .pass .result) (stands c)
+    let rows = rowsAt maskBytes (min (a .n) places) (now (a .b)) (a .i) in
+    omega (arith, passed c, reach-down (a .kind) (z - 1 + a .w) (c .before .before .loop .x - 1 + a .w) rows (omega arith))
 
-cover-at-requires : tie.Need-cover-at-requires Inv-loop μ-loop
-cover-at-requires c κs = (omega arith, stands c)
+covered-from-requires : tie.Need-covered-from-requires Inv-loop μ-loop
+covered-from-requires c κs =
+    let order = c .before .before .before .before .before .before .pre .order in
+    (omega arith, omega arith, record { some = omega arith; order = order; passed = passed c })
 
 -- ---- too few windows cover the tick in hand
 
 loop-less : tie.Need-loop-less Inv-loop μ-loop
-loop-less c =
-    let a = c .before .before .before .before .before .before .before .before .before .args in
-    let rows = rowsAt maskBytes (a .n) (now (a .b)) (a .i) in
-    omega (arith, next-less (a .w) (a .kind) (c .before .before .before .before .before .loop .x) rows (omega arith))
+loop-less c = omega arith
 
 loop-again : tie.Need-loop-again Inv-loop μ-loop
 loop-again c =
-    let a = c .before .before .before .before .before .before .before .before .before .args in
+    let a = c .before .before .before .before .before .before .before .before .args in
     let rows = rowsAt maskBytes (a .n) (now (a .b)) (a .i) in
-    let l = c .before .before .before .before .before .loop in
-    let tops = c .before .before .cover-at .ensures in
-    let down = next-less (a .w) (a .kind) (l .x) rows (omega arith) in
-    let none = none-covered (a .w) (a .kind) (a .m) (a .low) rows (l .x) (l .inv .0) (omega arith) in (
-      λ t p. none t (omega (arith, p, tops .next)),
-      omega (arith, down, tops .next),
-      behind (c .before .before .before) (c .before .before .cover-at .result .next) (omega (arith, down, tops .next)),
+    let l = c .before .before .before .before .loop in
+    let enough = c .before .before .before .before .before .before .at-least-one .ensures in
+    let from = c .before .covered-from in
+    let covered = subst (λ (k : ℕ). CoveredFrom (a .w) (a .kind) k (l .x) rows (from .result)) enough (from .ensures) in (
+      none-covered (a .w) (a .kind) (a .m) (a .low) rows (l .x) (from .result) (l .inv .0) covered,
+      omega arith,
+      behind (c .before .before) (from .result) (omega arith),
     )
 
 -- ---- enough do: their masks are looked at
@@ -113,12 +108,12 @@ better-requires c κs = omega arith
 -- what the look shows; the counters are not asked for more than is enough
 looked :
     (c : tie.After-scan Inv-loop μ-loop) →
-    let a = c .before .before .before .before .before .before .before .before .before .before .args in
+    let a = c .before .before .before .before .before .before .before .before .before .args in
     let rows = rowsAt maskBytes (a .n) (now (a .b)) (a .i) in
-    Looked (a .w) (a .kind) (a .m) (a .low) rows (c .before .before .before .before .before .before .loop .x) (c .scan .result)
+    Looked (a .w) (a .kind) (a .m) (a .low) rows (c .before .before .before .before .before .loop .x) (c .scan .result)
 looked c =
     record {
-      above = c .before .before .before .before .before .before .loop .inv .0;
+      above = c .before .before .before .before .before .loop .inv .0;
       positive = omega arith;
       small = search needs;
       shown = λ t p q r. c .scan .ensures t p q (omega arith);
@@ -127,23 +122,23 @@ looked c =
 -- what is found among the ticks looked at
 best :
     (c : tie.After-better Inv-loop μ-loop) →
-    let a = c .before .before .before .before .before .before .before .before .before .before .before .before .before .args in
+    let a = c .before .before .before .before .before .before .before .before .before .before .before .before .args in
     let rows = rowsAt maskBytes (a .n) (now (a .b)) (a .i) in
-    let x = c .before .before .before .before .before .before .before .before .before .loop .x in
+    let x = c .before .before .before .before .before .before .before .before .loop .x in
     let held = c .before .before .before .scan .result in
     c .better .result ≡ max (a .low) (bestOf (a .w) (a .kind) (max 1 (a .m)) (a .low) rows (lookedAt x held))
 best c =
-    let a = c .before .before .before .before .before .before .before .before .before .before .before .before .before .args in
+    let a = c .before .before .before .before .before .before .before .before .before .before .before .before .args in
     let rows = rowsAt maskBytes (a .n) (now (a .b)) (a .i) in
-    let x = c .before .before .before .before .before .before .before .before .before .loop .x in
-    let enough = c .before .before .before .before .before .before .before .before .before .before .before .at-least-one in
+    let x = c .before .before .before .before .before .before .before .before .loop .x in
+    let enough = c .before .before .before .before .before .before .before .before .before .before .at-least-one in
     let found : ℕ → ℕ → ℕ = λ m mask. max (a .low) (bestOf (a .w) (a .kind) m (a .low) rows (lookedAt x mask)) in
     let one-word = c .before .of in
     _∙_ {b = found (enough .result) (maskBy (one-word .result))} (c .better .ensures) (ap₂ found (enough .ensures) (one-word .ensures))
 
 returns : tie.Need-returns Inv-loop μ-loop
 returns c =
-    let l = c .before .before .before .before .before .before .before .before .before .before .loop in
+    let l = c .before .before .before .before .before .before .before .before .before .loop in
     let is = found (looked (c .before .before .before .before)) (c .before .better .result) (best (c .before)) (c .if3 .taken) in
     (is .0, omega (arith, is .1, l .inv .1))
 
@@ -156,10 +151,8 @@ less-requires c κs = search needs
 -- the window that enough rows have the tick in hand in is not empty
 loop-less-2 : tie.Need-loop-less-2 Inv-loop μ-loop
 loop-less-2 c =
-    let a = c .before .before .before .before .before .before .before .before .before .before .before .before .before .args in
-    let rows = rowsAt maskBytes (a .n) (now (a .b)) (a .i) in
-    let x = c .before .before .before .before .before .before .before .before .before .loop .x in
-    omega (arith, cover-wide (a .w) (a .kind) x rows (omega arith))
+    let covered = c .before .before .before .before .before .covered-from .ensures in
+    omega (arith, covered .wide (omega arith))
 
 loop-again-2 : tie.Need-loop-again-2 Inv-loop μ-loop
 loop-again-2 c =
@@ -172,7 +165,7 @@ loop-again-2 c =
     (c .before .before .if2 .came) in (
       λ t p. none t (omega arith),
       omega arith,
-      behind (c .before .before .before .before .before .before .before) (c .less .result) (omega arith),
+      behind (c .before .before .before .before .before .before) (c .less .result) (omega arith),
     )
 
 returns-2 : tie.Need-returns-2 Inv-loop μ-loop
@@ -192,7 +185,7 @@ walk-down-spec =
     countable-requires
     loop-holds
     pass-requires
-    cover-at-requires
+    covered-from-requires
     loop-less
     loop-again
     scan-requires

@@ -290,9 +290,11 @@ module _ (w : ℕ) (s : Held) where
       ap₂ (λ (a b : Bool). small && cond a (eqb (s .top) 0) b) (ne-eqb (s .mask) 0 n) (ne-eqb (s .mask % 2) 1 m)
       ∙ and-false small
 
-  pub proper-odd : (s .mask ≡ 0 → ⊥) → s .mask % 2 ≡ 1 → proper w s ≡ ltb (s .mask) (2 ^ min w (s .top + 1))
+  -- with bit 0 set it is not 0
+  pub proper-odd : s .mask % 2 ≡ 1 → proper w s ≡ ltb (s .mask) (2 ^ min w (s .top + 1))
   unfolding proper
-  proper-odd n m =
+  proper-odd m =
+      let n : s .mask ≡ 0 → ⊥ = λ z. omega (arith, ap (λ (x : ℕ). x % 2) z) in
       let small = ltb (s .mask) (2 ^ min w (s .top + 1)) in
       ap₂ (λ (a b : Bool). small && cond a (eqb (s .top) 0) b) (ne-eqb (s .mask) 0 n) (eq-eqb (s .mask % 2) 1 m)
       ∙ and-true small
@@ -341,4 +343,4 @@ module _ (w : ℕ) (s : Held) where
       go : Shape s → proper w s ≡ true
       go (inl e) = proper-empty (e .0) ∙ eq-eqb (s .top) 0 (e .1)
       go (inr o) =
-          proper-odd (λ z. omega (arith, ap (λ (x : ℕ). x % 2) z)) o ∙ lt-ltb (s .mask) (2 ^ min w (s .top + 1)) small
+          proper-odd o ∙ lt-ltb (s .mask) (2 ^ min w (s .top + 1)) small

@@ -144,21 +144,21 @@ impl Mask {
         }
     }
 
-    // Whether no bit from bit k on is set.
+    // Whether no bit from bit k on is set. Mostly k is as many bits as there are, and no word has to be read.
     pub fn is_below(self, k: u32) -> bool
         requires { ⌜ k ≤ maskBits ⌝ }
         ensures { λ r. ⌜ r ≡ ltb (maskBy self) (2 ^ k) ⌝ }
     {
-        if k < Mask::WORD {
-            if self.high == 0 {
-                return self.low < (1u64 << k);
-            }
-            return false;
+        if Mask::BITS <= k {
+            return true;
         }
-        if k < Mask::BITS {
+        if Mask::WORD <= k {
             return self.high < (1u64 << (k - Mask::WORD));
         }
-        true
+        if self.high == 0 {
+            return self.low < (1u64 << k);
+        }
+        false
     }
 
     // ---- changed

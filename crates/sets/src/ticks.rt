@@ -105,18 +105,18 @@ impl Ticks {
     }
 
     // Whether an image may hold this set: no bit outside the window or above the top, bit 0 set unless the set is empty, and the
-    // empty set with top 0.
+    // empty set with top 0. Mostly bit 0 is set and the top is as high as the window is wide: then the low word alone is read.
     pub fn is_proper(self, w: u32) -> bool
         requires { ⌜ w ≤ maskBits ⌝ }
         ensures { λ r. ⌜ r ≡ proper w (heldBy self) ⌝ }
     {
         let top = self.top;
         let mask = self.mask;
-        if mask.is_empty() {
-            return top == 0;
-        }
         if mask.is_odd() {
             return mask.is_below(reach(w, top));
+        }
+        if mask.is_empty() {
+            return top == 0;
         }
         false
     }

@@ -1,7 +1,7 @@
 -- The question stopped early: its answer is the full count's, it reads at most all rows, and none exactly where m tells alone; nothing
 -- beyond the rows read decides, and after fewer of them the answer is still open. So this is the earliest stop, not just an early one.
 -- Assumes nothing.
-use mathlib.Core.Path.{_≡_, refl, sym, ap, ap₂, _∙_, subst}
+use mathlib.Core.Path.{_≡_, refl, sym, ap, _∙_, subst}
 use mathlib.Core.Logic.{_⊎_, inl, inr}
 use mathlib.Core.Bool.{Bool, true, false, cond, _&&_, and-eq-true-iff}
 use mathlib.Core.List.{List, [], _∷_, List·Permᴰ}
@@ -10,7 +10,7 @@ use native.Mathlib.Decide.{decLe, decLt}
 use native.Mathlib.Nat.{zero-mul, suc-mul, mul-zero, mul-one}
 use native.Mathlib.Omega.{arith}
 use borrow.Author.Tests.{lt-ltb, le-ltb, le-leb, lt-leb, eq-eqb, ne-eqb}
-use lib.Dec.{ltb, leb, eqb}
+use lib.Dec.{leb, eqb}
 use lib.ListN.{length, take}
 use Rattle.fields.specs.Kind.{ECHO}
 use Rattle.sets.specs.Ticks.{Held, empty, holds, insert, proper}
@@ -31,7 +31,7 @@ abbrev pub readBefore : ℕ → Decided → Decided
 readBefore k d = decidedAs (d .held) (k + d .read)
 
 module _ (w kind t : ℕ) where
-  pub decide-yes : (m : ℕ) (rows : List Row) → m ≡ 0 → decide w kind t m rows ≡ decidedAs true 0
+  decide-yes : (m : ℕ) (rows : List Row) → m ≡ 0 → decide w kind t m rows ≡ decidedAs true 0
   unfolding decide
   decide-yes m [] e = rw (eq-eqb m 0 e)
   decide-yes m (row ∷ rows) e = rw (eq-eqb m 0 e)
@@ -41,7 +41,7 @@ module _ (w kind t : ℕ) where
   decide-no m [] p = rw (ne-eqb m 0 (λ e. omega arith))
   decide-no m (row ∷ rows) p = rw (ne-eqb m 0 (λ e. omega arith), lt-ltb (suc (length rows)) m p)
 
-  pub decide-read :
+  decide-read :
       (m : ℕ) (row : Row) (rows : List Row) → 0 < m → m ≤ suc (length rows) →
       decide w kind t m (row ∷ rows) ≡ oneMore (decide w kind t (m - holds w (setOf kind row) t) rows)
   unfolding decide

@@ -174,7 +174,7 @@ module _ (w last : ℕ) {p : Node} {rows : List Row} {j : ℕ} (h : JustCredited
       ]
 
   -- so R5 fires at that tick or not at all
-  pub init-wakes :
+  init-wakes :
       0 < w → wakeAt w p rows ≡ cond (eqb (p .mode) 0) (cond (leb (p .faults + 1) (holders w INIT j rows)) (suc j) 0) 0
   init-wakes wide = go (eqb (p .mode) 0) (none w last h .3)
     where

@@ -10,9 +10,9 @@ use lib.ListN.{length}
 use denote.Ref.{now}
 use Rattle.evidence.specs.Early.{decidedAs, decide}
 use Rattle.evidence.specs.declared.early.Decided.{Decided}
-use Rattle.evidence.specs.Rows.{rowBytes, rowSize, setPlace, setAt, rowsAt}
+use Rattle.evidence.specs.Rows.{rowBytes, setPlace, setAt, rowsAt}
 use Rattle.sets.specs.Sets.{maskBytes}
-use Rattle.sets.specs.Ticks.{Held, holds}
+use Rattle.sets.specs.Ticks.{holds}
 use Rattle.evidence.proofs.Earliest.{readBefore, decide-no, decide-enough, decide-too-few, decide-down}
 use Rattle.evidence.proofs.Layouts.{length-rows}
 use Rattle.evidence.proofs.early.decide.Statement.{statement}

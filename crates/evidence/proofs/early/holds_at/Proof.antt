@@ -1,13 +1,11 @@
 -- `early::holds_at` meets its contract: a tick above the top or below the window is not held, and else its bit tells.
 -- Assumes nothing.
 use borrow.Author.Needs.{needs}
-use mathlib.Core.Path.{_≡_, sym, ap, _∙_}
-use Prim.Native.Nat.{ℕ, _+_, _-_}
+use mathlib.Core.Path.{sym, _∙_}
+use Prim.Native.Nat.{_-_}
 use native.Mathlib.Omega.{arith}
 use denote.Ref.{now}
-use Rattle.fields.specs.Field.{field}
 use Rattle.sets.specs.Sets.{maskBytes}
-use Rattle.sets.specs.Ticks.{bit}
 use Rattle.sets.proofs.Members.{holds-at, holds-above, holds-below}
 use Rattle.evidence.specs.Rows.{setAt}
 use Rattle.evidence.proofs.early.holds_at.Statement.{statement}

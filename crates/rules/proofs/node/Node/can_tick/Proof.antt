@@ -1,5 +1,6 @@
--- `Node::can_tick` meets its contract: below the last tick the question to the rows decides. The `refl` is written out because a refusal then
--- shows where the two sides differ. Assumes nothing.
+-- `Node::can_tick` meets its contract: below the last tick the question to the rows decides. The `refl` is written out because a refusal
+-- then shows where the two sides differ.
+-- Assumes nothing.
 use borrow.Author.Needs.{needs}
 use mathlib.Core.Path.{refl}
 use mathlib.Core.Bool.{and-true, and-false}

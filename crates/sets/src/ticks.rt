@@ -3,20 +3,13 @@
 use crate::mask::Mask;
 use fields::kind::ECHO;
 ghost use mathlib.Core.Path.{_≡_};
-ghost use Prim.Native.Nat.{_+_, _≤_, _<_, min};
+ghost use Prim.Native.Nat.{_≤_, _<_};
 ghost use Rattle.sets.specs.Ticks.{empty, holds, insert, add, proper};
 ghost use Rattle.sets.specs.Sets.{maskBits, heldBy};
 
 pub struct Ticks {
     pub top: u32,
     pub mask: Mask,
-}
-
-// How many bits a mask may have: as many as the window is wide, and none for a tick below 0.
-fn reach(w: u32, top: u32) -> u32
-    ensures { λ r. ⌜ r ≡ min w (top + 1) ⌝ }
-{
-    if top < w { top + 1 } else { w }
 }
 
 impl Ticks {
@@ -113,7 +106,10 @@ impl Ticks {
         let top = self.top;
         let mask = self.mask;
         if mask.is_odd() {
-            return mask.is_below(reach(w, top));
+            if top < w {
+                return mask.is_below(top + 1);
+            }
+            return mask.is_below(w);
         }
         if mask.is_empty() {
             return top == 0;

@@ -11,7 +11,7 @@ use native.Mathlib.Nat.{zero-mul, suc-mul, mul-zero, mul-one}
 use native.Mathlib.Omega.{arith}
 use borrow.Author.Tests.{lt-ltb, le-ltb, le-leb, lt-leb, eq-eqb, ne-eqb}
 use lib.Dec.{leb, eqb}
-use lib.ListN.{length, take}
+use lib.ListN.{length, take, drop}
 use Rattle.fields.specs.Kind.{ECHO}
 use Rattle.sets.specs.Ticks.{Held, empty, holds, insert, proper}
 use Rattle.sets.proofs.Members.{holds-le, insert-new, insert-top, insert-proper, bare, proper-empty, proper-facts, proper-test}
@@ -220,6 +220,17 @@ module _ (s : Held) where
     all-hold (row ∷ rows) =
         omega (arith, ap (λ (r : Held). holds w r t) (set-of row), all-hold rows, suc-mul (length rows) (holds w s t))
 
+    in-two : (r : ℕ) (rows : List Row) → holders w kind t (goOn s r rows) ≡ holders w kind t (take r rows) + holders w kind t (goOn s 0 (drop r rows))
+    unfolding goOn holders
+    in-two zero rows = omega arith
+    in-two (suc r) [] = refl
+    in-two (suc r) (row ∷ rows) = omega (arith, in-two r rows)
+
+    -- the holders among the first r rows, and either all others or none
+    goes-on : (r : ℕ) (rows : List Row) (h : ℕ) →
+        holds w s t ≡ h → holders w kind t (goOn s r rows) ≡ holders w kind t (take r rows) + length (drop r rows) * h
+    goes-on r rows h e = omega (arith, in-two r rows, all-hold (drop r rows), ap (λ (x : ℕ). length (drop r rows) * x) e)
+
   module _ (w last : ℕ) (good : properSet w last s ≡ true) where
     as-proper : (r : ℕ) (rows : List Row) → properRows w last rows ≡ true → properRows w last (goOn s r rows) ≡ true
     unfolding goOn properRows
@@ -249,42 +260,23 @@ module _ (w last : ℕ) where
       )
 
 module _ (w kind t : ℕ) where
-  -- the rows from the r-th on hold the tick, so that there are enough; or none of them does, so that there are not
-  open-for-yes :
-      (s : Held) → holds w s t ≡ 1 → (m r : ℕ) (rows : List Row) → r < decide w kind t m rows .read →
-      m ≤ holders w kind t (goOn s r rows)
-  unfolding goOn holders
-  open-for-yes s one m r rows p = go m r rows (way w kind t m rows) p
+  -- after fewer rows than are read, some holder is lacking, and the rows left could make it up
+  still-open :
+      (m r : ℕ) (rows : List Row) → r < decide w kind t m rows .read →
+      (holders w kind t (take r rows) < m) × (m ≤ holders w kind t (take r rows) + length (drop r rows))
+  unfolding holders
+  still-open m r rows p = go m r rows (way w kind t m rows) p
     where
       go :
           (m r : ℕ) (rows : List Row) → Way w kind t m rows → r < decide w kind t m rows .read →
-          m ≤ holders w kind t (goOn s r rows)
-      go m r rows (enough e) p = omega arith
-      go m r rows (too-few q) p = absurd (omega (arith, none-read w kind t m rows (inr q)))
-      go m zero (row ∷ rows) (reads a q next) p =
-          let all = length (row ∷ rows) in
-          omega (arith, all-hold s w kind t (row ∷ rows), ap (λ (h : ℕ). all * h) one, mul-one all)
-      go m (suc r) (row ∷ rows) (reads a q next) p =
-          let x = holds w (setOf kind row) t in
-          omega (arith, go (m - x) r rows next (omega (arith, ap (λ d. d .read) (decide-read w kind t m row rows a q))))
-
-  open-for-no :
-      (s : Held) → holds w s t ≡ 0 → (m r : ℕ) (rows : List Row) → r < decide w kind t m rows .read →
-      holders w kind t (goOn s r rows) < m
-  unfolding goOn holders
-  open-for-no s none m r rows p = go m r rows (way w kind t m rows) p
-    where
-      go :
-          (m r : ℕ) (rows : List Row) → Way w kind t m rows → r < decide w kind t m rows .read →
-          holders w kind t (goOn s r rows) < m
+          (holders w kind t (take r rows) < m) × (m ≤ holders w kind t (take r rows) + length (drop r rows))
       go m r rows (enough e) p = absurd (omega (arith, none-read w kind t m rows (inl e)))
       go m r rows (too-few q) p = absurd (omega (arith, none-read w kind t m rows (inr q)))
-      go m zero (row ∷ rows) (reads a q next) p =
-          let all = length (row ∷ rows) in
-          omega (arith, all-hold s w kind t (row ∷ rows), ap (λ (h : ℕ). all * h) none, mul-zero all)
+      go m zero (row ∷ rows) (reads a q next) p = (omega arith, omega arith)
       go m (suc r) (row ∷ rows) (reads a q next) p =
           let x = holds w (setOf kind row) t in
-          omega (arith, go (m - x) r rows next (omega (arith, ap (λ d. d .read) (decide-read w kind t m row rows a q))))
+          let h = go (m - x) r rows next (omega (arith, ap (λ d. d .read) (decide-read w kind t m row rows a q))) in
+          (omega (arith, h .0), omega (arith, h .1))
 
   -- the set of this tick alone, or none
   abbrev rowsWith : Bool → Held
@@ -313,7 +305,19 @@ module _ (w kind t : ℕ) where
 
       told : (yes : Bool) → leb m (holders w kind t (goOn (rowsWith yes) r rows)) ≡ yes
       told true =
+          let one = insert-new w empty t wide (omega arith) in
           le-leb m (holders w kind t (goOn (insert w empty t) r rows))
-          (open-for-yes (insert w empty t) (insert-new w empty t wide (omega arith)) m r rows early)
+          (omega (
+            arith,
+            still-open m r rows early,
+            goes-on (insert w empty t) w kind t r rows 1 one,
+            mul-one (length (drop r rows)),
+          ))
       told false =
-          lt-leb m (holders w kind t (goOn empty r rows)) (open-for-no empty (bare w empty refl t) m r rows early)
+          lt-leb m (holders w kind t (goOn empty r rows))
+          (omega (
+            arith,
+            still-open m r rows early,
+            goes-on empty w kind t r rows 0 (bare w empty refl t),
+            mul-zero (length (drop r rows)),
+          ))

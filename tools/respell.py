@@ -64,7 +64,8 @@ OTHER = {
     "readDecimal": "decimal_of",
     "setPlace": "place_of_set",
 }
-STAY = set()
+# .. and that stay: laws of the library that are named by their module
+STAY = {"not-nil"}
 
 TOKEN = re.compile(r"[^\s(){}.;,@\"«»\[\]⊢]+")
 USE = re.compile(r"^(?:ghost |pub )*use ([^\s;{]+?)\.?\{([^}]*)\}|^(?:ghost |pub )*use ([^\s;{]+)", re.M)

@@ -2,6 +2,8 @@
 // number on standard error, and where the image could not be written whole, that. It reads, converts and writes, and nothing else. Of the
 // input no more is read than the longest old image has: its size stands in it, bytes behind that are not looked at, and a stated size
 // above the longest is refused whatever follows.
+#![tactic(auto)]
+
 use converter::calls::{MOST_OLD_IMAGE, convert};
 use libc::{STDERR_FILENO, STDIN_FILENO, STDOUT_FILENO};
 use node::image::MOST_IMAGE;

@@ -1,6 +1,8 @@
 // Runs the edges of document 01 that concern fields, forms, frames, masks, sets of ticks and rows: reads cases from standard input,
 // and prints a line for each: its label, then what came back. tests/model/edges.py, written from the papers alone, writes both the
 // cases, this crate's `stdin`, and the lines, its `stdout`.
+#![tactic(auto)]
+
 mod case;
 mod field;
 mod mask;

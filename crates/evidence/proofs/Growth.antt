@@ -25,12 +25,12 @@ use Rattle.evidence.proofs.Frames.{serial_credited, set_credited, set_other, Eve
 
 run_near : (u c j : ℕ) → Memᴰ u (run c j) → (u ≤ j) × (j < u + c)
 unfolding run
-run_near u zero j m = absurd (Memᴰ.not_nil m)
+run_near u zero j m = absurd (Memᴰ.not-nil m)
 run_near u (suc c) zero m = go (Memᴰ.cases_cons m)
   where
     go : (u ≡ 0) ⊎ Memᴰ u [] → (u ≤ 0) × (0 < u + suc c)
     go (inl e) = omega arith
-    go (inr n) = absurd (Memᴰ.not_nil n)
+    go (inr n) = absurd (Memᴰ.not-nil n)
 run_near u (suc c) (suc j) m = go (λ n. run_near u c j n) (Memᴰ.cases_cons m)
   where
     go :

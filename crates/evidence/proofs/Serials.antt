@@ -42,7 +42,7 @@ record Without (x : ℕ) (l : List ℕ) : Type 0 where
   other : (s : ℕ) → Memᴰ s left → Memᴰ s l × (s ≢ x)
 
 without : (x : ℕ) (l : List ℕ) → (Twice l → ⊥) → Without x l
-without x [] once = record { left = []; most = omega arith; once = once; other = λ s m. absurd (Memᴰ.not_nil m) }
+without x [] once = record { left = []; most = omega arith; once = once; other = λ s m. absurd (Memᴰ.not-nil m) }
 without x (y ∷ l) once = go (ℕ_discrete y x) (without x l apart.1)
   where
     apart : (Memᴰ y l → ⊥) × (Twice l → ⊥)
@@ -88,7 +88,7 @@ module _ (w kind t : ℕ) where
   -- the serials of all rows that hold it
   all_holders : (rows : List Row) → (Twice (serials_in rows) → ⊥) → HeldBy w kind t (holders w kind t rows) rows
   unfolding holders
-  all_holders [] once = record { serials = []; many = omega arith; distinct = once; each = λ s q. absurd (Memᴰ.not_nil q) }
+  all_holders [] once = record { serials = []; many = omega arith; distinct = once; each = λ s q. absurd (Memᴰ.not-nil q) }
   all_holders (row ∷ rows) once = go (ℕ_discrete (holds w (set_of kind row) t) 1) (all_holders rows apart.1)
     where
       apart : (Memᴰ row.serial (serials_in rows) → ⊥) × (Twice (serials_in rows) → ⊥)
@@ -122,7 +122,7 @@ module _ (w kind t : ℕ) where
       length serials ≤ holders w kind t rows
   unfolding holders
   no_more [] [] once each = omega arith
-  no_more [] (s ∷ serials) once each = absurd (Memᴰ.not_nil (each s (Memᴰ.head refl)).listed)
+  no_more [] (s ∷ serials) once each = absurd (Memᴰ.not-nil (each s (Memᴰ.head refl)).listed)
   no_more (row ∷ rows) serials once each =
       let rest = without row.serial serials once in
       elim (ℕ_discrete (holds w (set_of kind row) t) 1) [

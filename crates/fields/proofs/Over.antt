@@ -68,6 +68,7 @@ byte_over : (b c : List ℕ) (j : ℕ) (ss : List Store) → j < length b → j 
     (get_or b j 0 ≡ get_or c j 0) ⊎ T (covered ss j) → get_or (put_stores b ss) j 0 ≡ get_or (put_stores c ss) j 0
 unfolding put_stores
 byte_over b c j [] p q (inl e) = e
+byte_over b c j [] p q (inr x) = elim x [ ]
 byte_over b c j (s ∷ ss) p q h =
     byte_over (after b) (after c) j ss (omega (arith, kept b)) (omega (arith, kept c)) (go (covers s j) refl h)
   where

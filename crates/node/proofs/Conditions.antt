@@ -58,7 +58,7 @@ BothSound w last row = SoundSet w last row.echo × SoundSet w last row.init
 
 rows_say : (w last : ℕ) (rows : List Row) →
     AllKept w last rows ↔ ((row : Row) → Memᴰ row rows → BothSound w last row)
-rows_say w last [] = (λ h row m. absurd (Memᴰ.not_nil m), λ h. tt)
+rows_say w last [] = (λ h row m. absurd (Memᴰ.not-nil m), λ h. tt)
 rows_say w last (row ∷ rows) = (
   λ h r m. ⊎_elim
       (λ e. subst (BothSound w last) (sym e) ((set_says w last row.echo).0 h.0.0, (set_says w last row.init).0 h.0.1))

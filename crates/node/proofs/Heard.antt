@@ -212,7 +212,7 @@ held_alike L last works small image other calls others serial kind bytes bytes' 
     go true e = heard_same L.window kind _ _ _ works.wide (proper e) there back
     go false e =
         let none = none_from serial (taken_over L last image calls) (unsound_none L last image calls (λ f. false≢true (sym e ∙ f))) in
-        rw (none, no_members (accepted L last other serial others) (λ f m. Memᴰ.not_nil (rw none at (back f m))))
+        rw (none, no_members (accepted L last other serial others) (λ f m. Memᴰ.not-nil (rw none at (back f m))))
 
 -- two runs of calls on one image in which the same frames were accepted from a serial leave the same set under it
 pub held_same : (L : Layout) (last : ℕ) →

@@ -1,4 +1,6 @@
 // The node of the clock on byte buffers: its image, and the calls boot, deliver and read.
+#![tactic(auto)]
+
 pub mod calls;
 pub mod image;
 pub mod layout;

@@ -1,5 +1,7 @@
 // The desk's program: whether a pack is in force at the clock of a node. Its arguments are the names of a sheet and of an image, and a
 // pack number in decimal. It reads, asks and writes, and nothing else: what it prints about a question is made by line::show.
+#![tactic(auto)]
+
 mod file;
 mod line;
 

@@ -1,6 +1,8 @@
 // What truck firmware in C links: the exported functions and nothing else. Each is one call of the crate that owns it, under the same
 // contract. The C caller's only duty is that the buffers are real memory of the stated length and do not overlap.
 // include/pebrassola.h declares them.
+#![tactic(auto)]
+
 ghost use Rattle.std.specs.Prelude.{◌≡◌};
 ghost use Rattle.rules.specs.Describe.{last_tick};
 ghost use Rattle.node.specs.Answers.{outcome_by, reading_by};

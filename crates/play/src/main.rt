@@ -1,5 +1,7 @@
 // Plays a log: the log on standard input, its listing on standard output. One byte more than the longest log is read, so that a
 // longer one is noticed; all the rest is the proved player's.
+#![tactic(auto)]
+
 use log::file::LONGEST;
 use log::player::{LISTING_ROOM, Played, play};
 

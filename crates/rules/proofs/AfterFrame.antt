@@ -48,7 +48,7 @@ init_adds kind j t e m = go j (subst (λ (echo : Bool). Memᴰ t (run (cond echo
   where
     last_one : (x : ℕ) → (t ≡ x) ⊎ Memᴰ t [] → t ≡ x
     last_one x (inl e) = e
-    last_one x (inr n) = absurd (Memᴰ.not_nil n)
+    last_one x (inr n) = absurd (Memᴰ.not-nil n)
 
     go : (j : ℕ) → Memᴰ t (run 1 j) → t ≡ j
     go zero m = last_one zero (Memᴰ.cases_cons m)

@@ -30,7 +30,7 @@ greatest_first a (t ∷ ts) = omega (arith, greatest_first (max a t) ts)
 
 greatest_each : (a : ℕ) (ts : List ℕ) (u : ℕ) → Memᴰ u ts → u ≤ greatest a ts
 unfolding greatest
-greatest_each a [] u m = absurd (Memᴰ.not_nil m)
+greatest_each a [] u m = absurd (Memᴰ.not-nil m)
 greatest_each a (t ∷ ts) u m = go (λ n. greatest_each (max a t) ts u n) (Memᴰ.cases_cons m)
   where
     go : (Memᴰ u ts → u ≤ greatest (max a t) ts) → (u ≡ t) ⊎ Memᴰ u ts → u ≤ greatest (max a t) ts
@@ -47,7 +47,7 @@ greatest_same : (a : ℕ) (ts us : List ℕ) → ((u : ℕ) → Memᴰ u ts → 
 greatest_same a ts us f = greatest_least a ts (greatest a us) (greatest_first a us) (λ u m. greatest_each a us u (f u m))
 
 member_of : (u : ℕ) (ts : List ℕ) → Dec (Memᴰ u ts)
-member_of u [] = no (λ m. Memᴰ.not_nil m)
+member_of u [] = no (λ m. Memᴰ.not-nil m)
 member_of u (t ∷ ts) = go (ℕ_discrete u t) (member_of u ts)
   where
     go : Dec (u ≡ t) → Dec (Memᴰ u ts) → Dec (Memᴰ u (t ∷ ts))
@@ -98,7 +98,7 @@ module _ (w : ℕ) (wide : 0 < w) where
   all_new :
       (s : Held) (ts : List ℕ) (u : ℕ) → Memᴰ u ts → greatest s.top ts < u + w → holds w (insert_all w s ts) u ≡ 1
   unfolding insert_all greatest
-  all_new s [] u m p = absurd (Memᴰ.not_nil m)
+  all_new s [] u m p = absurd (Memᴰ.not-nil m)
   all_new s (t ∷ ts) u m p = go (λ n. all_new (insert w s t) ts u n (all_later s t ts u p)) (Memᴰ.cases_cons m)
     where
       go :
@@ -183,11 +183,11 @@ one_brought kind frame u m = go (eqb frame.kind kind) refl m
         (same : Bool) → eqb frame.kind kind ≡ same → Memᴰ u (cond same (added kind frame.tick) []) →
         (frame.kind ≡ kind) × Memᴰ u (added kind frame.tick)
     go true e m = (eqb-true frame.kind kind e, m)
-    go false e m = absurd (Memᴰ.not_nil m)
+    go false e m = absurd (Memᴰ.not-nil m)
 
 brought : (kind : ℕ) (frames : List Sent) (u : ℕ) → Memᴰ u (brings kind frames) → Brought kind frames u
 unfolding brings
-brought kind [] u m = absurd (Memᴰ.not_nil m)
+brought kind [] u m = absurd (Memᴰ.not-nil m)
 brought kind (frame ∷ frames) u m =
     go (λ n. brought kind frames u n) (Memᴰ.append_cases (brings_one kind frame) m)
   where
@@ -206,7 +206,7 @@ bring :
     (kind : ℕ) (frames : List Sent) (u : ℕ) (frame : Sent) → Memᴰ frame frames → frame.kind ≡ kind →
     Memᴰ u (added kind frame.tick) → Memᴰ u (brings kind frames)
 unfolding brings brings_one
-bring kind [] u frame m e a = absurd (Memᴰ.not_nil m)
+bring kind [] u frame m e a = absurd (Memᴰ.not-nil m)
 bring kind (first ∷ frames) u frame m e a = go (λ n. bring kind frames u frame n e a) (Memᴰ.cases_cons m)
   where
     here : frame ≡ first → Memᴰ u (cond (eqb first.kind kind) (added kind first.tick) [])

@@ -8,7 +8,7 @@ ghost use Rattle.sets.specs.Sets.{word_bits, mask_bytes, mask_bits, mask_by};
 
 use fields::field::{long, put_long};
 
-#[derive(Drop)]
+#[derive(Clone, Copy)]
 pub struct Mask {
     pub high: u64,
     pub low: u64,

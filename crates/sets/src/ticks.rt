@@ -7,7 +7,7 @@ ghost use Rattle.sets.specs.Sets.{mask_bits, held_by};
 use crate::mask::Mask;
 use fields::kind::ECHO;
 
-#[derive(Drop)]
+#[derive(Clone, Copy)]
 pub struct Ticks {
     pub top: u32,
     pub mask: Mask,

@@ -1,5 +1,7 @@
 // Takes the steps on standard input: calls of boot, deliver, read and convert, and what goes before them. tests/model/trial.py writes the
 // steps, and works out by its own model what they have to print.
+#![tactic(auto)]
+
 mod call;
 mod show;
 mod step;

@@ -1,3 +1,5 @@
 // Logs: reader and writer of a log, and the player that makes its listing.
+#![tactic(auto)]
+
 pub mod file;
 pub mod player;

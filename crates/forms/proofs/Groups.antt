@@ -25,7 +25,8 @@ overlap p q (x ∷ l) = omega (arith, here (p x) (q x), overlap p q l)
     here : (s t : Bool) → cond s 1 0 + cond t 1 0 ≤ 1 + cond (s && t) 1 0
     here true true = omega arith
     here true false = omega arith
-    here false t = elim t [ true ↦ omega arith | false ↦ omega arith ]
+    here false true = omega arith
+    here false false = omega arith
 
 -- a group less another lacks no more than the other has
 left : (p q : ℕ → Bool) (l : List ℕ) → how_many p l ≤ how_many (without p q) l + how_many q l

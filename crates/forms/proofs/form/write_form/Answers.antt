@@ -1,0 +1,89 @@
+-- `form::write_form` meets its contract: a sound roster keeps the limits, so n and f are bytes, and the stores one after the other
+-- are the form.
+use mathlib.Core.Path.{◌≡◌, sym}
+use mathlib.Core.List.{List}
+use Prim.Native.Nat.{ℕ}
+use native.Mathlib.Omega.{arith}
+use lib.ListN.{length, set, length-set}
+use borrow.Author.Tests.{lt-ltb, le-ltb}
+use Rattle.fields.specs.Field.{put_field, put_words}
+use Rattle.forms.specs.Form.{serials_place, form_size, form_written, put_form}
+use Rattle.forms.proofs.Rosters.{Limits, roster_limits}
+use Rattle.fields.proofs.Fields.{put_byte}
+use Rattle.forms.proofs.Told.{refusal}
+use Rattle.forms.proofs.form.write_form.Goals as goal
+
+-- the stores of the body, one after the other, are the form
+laid : (out : List ℕ) (f own : ℕ) (serials : List ℕ) → Limits f (length serials) →
+    put_words 4 (put_field 4 (put_field 2 (set (set out 0 (length serials)) 1 f) 2 serials_place) 4 own) serials_place serials
+    ≡ put_form out f own serials
+unfolding put_form
+laid out f own serials l =
+    rw (put_byte out 0 (length serials) (omega arith), put_byte (set out 0 (length serials)) 1 f (omega arith))
+
+pub returns-in-Broken : goal.returns-in-Broken
+unfolding form_written
+returns-in-Broken c = rw (← c.in-Broken.ensures, refusal c.in-Broken.why)
+
+pub returns-then-out-size : goal.returns-then-out-size
+unfolding form_written
+returns-then-out-size c =
+    let a = c.args in
+    rw (← c.in_default.ensures, lt-ltb (length a.out.now) (form_size (length a.serials.now)) c.if-out-size.true)
+
+pub overflow_cast-out : goal.overflow_cast-out
+overflow_cast-out c =
+    let a = c.args in
+    omega (arith, roster_limits a.f a.own a.serials.now (sym c.in_default.ensures))
+
+pub overflow_cast-out-2 : goal.overflow_cast-out-2
+overflow_cast-out-2 c =
+    let a = c.args in
+    omega (arith, roster_limits a.f a.own a.serials.now (sym c.in_default.ensures))
+
+pub bounds-out-1 : goal.bounds-out-1
+bounds-out-1 c = simp length-set (omega arith)
+
+pub put_half-requires : goal.put_half-requires
+put_half-requires c = simp length-set (omega arith)
+
+pub put_word-requires : goal.put_word-requires
+put_word-requires c =
+    let half_length : length c.put_half.new.b ≡ length c.args.out.now =
+    simp length-set at c.put_half.auto.b in
+    omega (arith, half_length)
+
+pub put_serials-requires : goal.put_serials-requires
+put_serials-requires c =
+    let half_length : length c.put_half.new.b ≡ length c.args.out.now =
+    simp length-set at c.put_half.auto.b in
+    omega (
+      arith,
+      c.put_word.auto.b,
+      half_length,
+    )
+
+pub shape_of-out : goal.shape_of-out
+shape_of-out c =
+    let half_length : length c.put_half.new.b ≡ length c.args.out.now =
+    simp length-set at c.put_half.auto.b in
+    omega (
+      arith,
+      c.put_serials.auto.out,
+      c.put_word.auto.b,
+      half_length,
+    )
+
+pub returns : goal.returns
+unfolding form_written
+returns c =
+    let a = c.args in
+    let serials = a.serials.now in
+    rw (
+      ← c.in_default.ensures,
+      le-ltb (length a.out.now) (form_size (length serials)) c.if-out-size.false,
+      c.put_serials.ensures,
+      c.put_word.ensures,
+      c.put_half.ensures,
+      laid a.out.now a.f a.own serials (roster_limits a.f a.own serials (sym c.in_default.ensures)),
+    )

@@ -100,6 +100,13 @@ class Function:
         for old, above, (a, b), *_ in row["places"]:
             if a:
                 self.steps[norm(a)] = b
+        # what an arm of a match knows: (old step, old path) and its new path
+        self.arms = {}
+        for arm in row["arms"]:
+            if arm:
+                for new, old, path in arm[2]:
+                    if path:
+                        self.arms[(norm(old), ".".join(path))] = f"{arm[0]}.{new}"
         self.loops = {norm(pair[0]): (pair[1], names) for pair, names in row["loops"]}
         self.changed = dict(zip([norm(p[0]) for p, _ in row["loops"]], row["changed"]))
         self.todo = []
@@ -119,7 +126,12 @@ class Function:
             return f"{m[1]}.{self.steps.get(norm(m[2]), m[2])}"
 
         for v in variables:
+            for (old, path), new in sorted(self.arms.items(), key=lambda x: -len(x[0][1])):
+                name = "[-_]".join(map(re.escape, re.split("[-_]", old)))
+                text = re.sub(rf"(?<![\w.'-])({re.escape(v)})\.{name}\.{re.escape(path)}(?![\w'-])", lambda m: f"{m[1]}.{new}", text)
             text = re.sub(rf"(?<![\w.'-])({re.escape(v)})\.([\w'-]+)", step, text)
+        # a test of `!x` says now what x is
+        text = re.sub(r"\bnot-(?:true|false) (?:[\w'.-]+|\([^()]*\)) ([\w'-]+(?:\.[\w'-]+)*\.if-not-[\w'-]+\.(?:true|false))", r"\1", text)
         return text
 
     def aliases(self, text, variables):

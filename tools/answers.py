@@ -190,12 +190,13 @@ class Function:
             self.todo.append(f"{b.name}: several clauses")
             return self.comment(b)
         params, body = params_of(b.clauses[0], b.name)
-        if body.strip() in ALONE:
+        if re.sub(r"λ \w+\. ", "", body.strip()) in ALONE:
             return None
         if new is None:
             self.todo.append(f"{b.name}: no goal {label} any more")
             return self.comment(b)
         c = params[0]
+        more = "".join(" " + p for p in params[1:] if p != "κs")
         body = self.unback(body, back)
         unfold = list(b.unfold)
         body, lets = self.inline(body, [c], c, helpers, back, unfold, set())
@@ -207,11 +208,11 @@ class Function:
         if unfold:
             lines.append("unfolding " + " ".join(dict.fromkeys(unfold)))
         if lets:
-            lines.append(f"{new} {c} =")
+            lines.append(f"{new} {c}{more} =")
             lines += [indent(l, 4) for l in lets]
             lines.append(indent(body.strip() if not body.startswith("\n") else body.strip("\n").lstrip(), 4) if not body.startswith(" " * 4) else body)
         else:
-            lines.append(f"{new} {c} ={body if body.startswith(chr(10)) else ' ' + body.strip() if chr(10) not in body.strip() else chr(10) + indent(body, 0)}")
+            lines.append(f"{new} {c}{more} ={body if body.startswith(chr(10)) else ' ' + body.strip() if chr(10) not in body.strip() else chr(10) + indent(body, 0)}")
         if "branch" in "\n".join(lines):
             self.todo.append(f"{new}: cites a branch")
         return "\n".join(lines)

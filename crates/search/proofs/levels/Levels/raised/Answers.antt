@@ -1,6 +1,5 @@
 -- `Levels::raised` meets its contract: rank by rank a bit and what is carried to it are the bit that stays and what is carried on, and
 -- what is carried past the last rank runs over.
--- Assumes nothing.
 use mathlib.Core.Logic.{inl, inr}
 use native.Mathlib.Decide.{ℕ_discrete}
 use native.Mathlib.Omega.{arith}
@@ -9,13 +8,12 @@ use Rattle.sets.specs.Ticks.{bit}
 use Rattle.sets.proofs.Masks.{bit_le}
 use Rattle.search.specs.Levels.{reached}
 use Rattle.search.proofs.Bits.{bit_sum, bit_or_lem}
-use Rattle.search.proofs.levels.Levels.raised.Statement.{statement}
-use Rattle.search.proofs.levels.Levels.raised.Tie as tie
+use Rattle.search.proofs.levels.Levels.raised.Goals as goal
 
-returns : tie.Need-returns
+pub returns : goal.returns
 unfolding reached
 returns c d =
-    let a = c.before.before.before.before.before.before.before.before.before.before.before.before.before.args in
+    let a = c.args in
     let l = a.self in
     let to-twos = bit_and l.ones a.a in
     let to-fours = bit_and l.twos to-twos in
@@ -44,6 +42,3 @@ returns c d =
                 ))
           ];
     }
-
-pub raised-spec : {M : Type 1} → statement M
-raised-spec = tie.close (tie.spec returns)

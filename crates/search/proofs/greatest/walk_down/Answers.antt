@@ -1,0 +1,128 @@
+-- `greatest::walk_down` meets its contract: look by look no tick that enough rows hold is left above x.
+use borrow.Author.Rules.{rules}
+use mathlib.Core.Path.{◌≡◌, sym, ap₂, subst, ◌∙◌}
+use mathlib.Core.Logic.{⊎_elim}
+use Prim.Native.Nat.{ℕ, ◌+◌, ◌-◌, ◌≤◌, max, min}
+use native.Mathlib.Omega.{arith}
+use Rattle.fields.specs.Field.{Bytes}
+use Rattle.sets.specs.Sets.{mask_bytes, mask_by}
+use Rattle.evidence.specs.Holders.{best_of}
+use Rattle.evidence.specs.Rows.{rows_at}
+use Rattle.evidence.proofs.Columns.{holders_far}
+use Rattle.search.specs.Order.{places, reaching}
+use Rattle.search.specs.Tops.{CoveredFrom}
+use Rattle.search.specs.Scan.{view}
+use Rattle.search.proofs.Found.{NoneFrom, none_covered, none_left, looked_at, Looked, none_seen, none_better, found}
+use Rattle.search.proofs.Orders.{reach_down}
+use Rattle.search.proofs.greatest.walk_down.Goals.{then-held-ne0+else-low-best, else-held-ne0}
+use Rattle.search.proofs.greatest.walk_down.Goals as goal
+
+pub loop-x-init : goal.loop-x-init
+loop-x-init c =
+    let a = c.args in
+    let bytes : Bytes a.b.now = λ k. (c.shared_slice_known-1.given k).fits in (
+      λ t p l r. omega (arith, r, holders_far a.w a.kind t mask_bytes a.n a.b.now a.i bytes p),
+      omega arith,
+      omega arith,
+    )
+
+pub covered_from-from-requires : goal.covered_from-from-requires
+covered_from-from-requires c =
+    let passed : let a = c.args in c.pass-ended.result ≡ reaching a.kind (rows_at mask_bytes (min a.n places) a.b.now a.i) (c.loop-x.x - 1 + a.w) =
+    let a = c.args in
+    let many = min a.n places in
+    let count = reaching a.kind (rows_at mask_bytes many a.b.now a.i) in
+    c.pass-ended.ensures count many c.requires.order c.loop-x.invariant.2 in
+    let order = c.requires.order in
+    (omega arith, omega arith, record { some = omega arith; order = order; passed = passed })
+
+pub loop-x-preserved-then-from-x : goal.loop-x-preserved-then-from-x
+loop-x-preserved-then-from-x c =
+    let passed : let a = c.args in c.pass-ended.result ≡ reaching a.kind (rows_at mask_bytes (min a.n places) a.b.now a.i) (c.loop-x.x - 1 + a.w) =
+    let a = c.args in
+    let many = min a.n places in
+    let count = reaching a.kind (rows_at mask_bytes many a.b.now a.i) in
+    c.pass-ended.ensures count many c.requires.order c.loop-x.invariant.2 in
+    let behind : (z : ℕ) → z ≤ c.loop-x.x → let a = c.args in c.pass-ended.result ≤ reaching a.kind (rows_at mask_bytes (min a.n places) a.b.now a.i) (z - 1 + a.w) =
+    λ z p. let a = c.args in
+    let rows = rows_at mask_bytes (min a.n places) a.b.now a.i in
+    omega (arith, passed, reach_down a.kind (z - 1 + a.w) (c.loop-x.x - 1 + a.w) rows (omega arith)) in
+    let a = c.args in
+    let rows = rows_at mask_bytes a.n a.b.now a.i in
+    let l = c.loop-x in
+    let enough = c.at_least_one-enough.ensures in
+    let from = c.covered_from-from in
+    let covered = subst (λ (k : ℕ). CoveredFrom a.w a.kind k l.x rows from.result) enough from.ensures in (
+      none_covered a.w a.kind a.m a.low rows l.x from.result l.invariant.0 covered,
+      omega arith,
+      behind from.result (omega arith),
+    )
+
+pub returns-then-low-best : goal.returns-then-low-best
+returns-then-low-best c =
+    let looked : let a = c.args in let rows = rows_at mask_bytes a.n a.b.now a.i in Looked a.w a.kind a.m a.low rows c.loop-x.x c.scan-held.result =
+    record {
+      above = c.loop-x.invariant.0;
+      positive = omega arith;
+      small = search rules;
+      shown = λ t p q r. c.scan-held.ensures t p q (omega arith);
+    } in
+    let best : let a = c.args in let rows = rows_at mask_bytes a.n a.b.now a.i in let x = c.loop-x.x in let held = c.scan-held.result in c.better-best.result ≡ max a.low (best_of a.w a.kind (max 1 a.m) a.low rows (looked_at x held)) =
+    let a = c.args in
+    let rows = rows_at mask_bytes a.n a.b.now a.i in
+    let x = c.loop-x.x in
+    let enough = c.at_least_one-enough in
+    let found : ℕ → ℕ → ℕ = λ m mask. max a.low (best_of a.w a.kind m a.low rows (looked_at x mask)) in
+    let one_word = c.of in
+    ◌∙◌ {b = found enough.result (mask_by one_word.result)} c.better-best.ensures (ap₂ found enough.ensures one_word.ensures) in
+    let l = c.loop-x in
+    let is = found (looked) c.better-best.result (best) c.if-low-best.true in
+    (is.0, omega (arith, is.1, l.invariant.1))
+
+-- the window that enough rows have the tick in hand in is not empty
+pub loop-x-smaller : goal.loop-x-smaller
+loop-x-smaller c =
+    let covered = c.covered_from-from.ensures in
+    omega (arith, covered.wide (omega arith))
+
+pub loop-x-preserved : goal.loop-x-preserved
+loop-x-preserved c =
+    let passed : let a = c.args in c.pass-ended.result ≡ reaching a.kind (rows_at mask_bytes (min a.n places) a.b.now a.i) (c.loop-x.x - 1 + a.w) =
+    let a = c.args in
+    let many = min a.n places in
+    let count = reaching a.kind (rows_at mask_bytes many a.b.now a.i) in
+    c.pass-ended.ensures count many c.requires.order c.loop-x.invariant.2 in
+    let behind : (z : ℕ) → z ≤ c.loop-x.x → let a = c.args in c.pass-ended.result ≤ reaching a.kind (rows_at mask_bytes (min a.n places) a.b.now a.i) (z - 1 + a.w) =
+    λ z p. let a = c.args in
+    let rows = rows_at mask_bytes (min a.n places) a.b.now a.i in
+    omega (arith, passed, reach_down a.kind (z - 1 + a.w) (c.loop-x.x - 1 + a.w) rows (omega arith)) in
+    let looked : let a = c.args in let rows = rows_at mask_bytes a.n a.b.now a.i in Looked a.w a.kind a.m a.low rows c.loop-x.x c.scan-held.result =
+    record {
+      above = c.loop-x.invariant.0;
+      positive = omega arith;
+      small = search rules;
+      shown = λ t p q r. c.scan-held.ensures t p q (omega arith);
+    } in
+    let none : let a = c.args in NoneFrom a.w a.kind a.m a.low (rows_at mask_bytes a.n a.b.now a.i) (c.loop-x.x - view a.w) =
+    elim c.if-held-ne0.branch [
+      | then-held-ne0+else-low-best w ↦
+          let a = c.args in
+          let rows = rows_at mask_bytes a.n a.b.now a.i in
+          let x = c.loop-x.x in
+          let enough = c.at_least_one-enough in
+          let found : ℕ → ℕ → ℕ = λ m mask. max a.low (best_of a.w a.kind m a.low rows (looked_at x mask)) in
+          let best = ◌∙◌ {b = found enough.result (mask_by w.of.result)} w.better-best.ensures (ap₂ found enough.ensures w.of.ensures) in
+          none_better looked w.better-best.result best w.if-low-best.false
+      | else-held-ne0 w ↦ none_seen looked (omega arith)
+    ] in (
+      λ t p. none t (omega arith),
+      omega arith,
+      behind c.less-x.result (omega arith),
+    )
+
+pub returns : goal.returns
+returns c =
+    let a = c.args in
+    let rows = rows_at mask_bytes a.n a.b.now a.i in
+    let l = c.loop-x in
+    (sym (none_left a.w a.kind a.m a.low rows l.x l.invariant.0 (omega arith)), omega arith)

@@ -14,7 +14,7 @@ import subprocess
 import sys
 import tempfile
 
-HEAD = re.compile(r"^((?:(?:abbrev|unfoldable|pub|pattern) )*)([^\s(){}.;,@:]+) :(?=\s|$)")
+HEAD = re.compile(r"^((?:(?:abbrev|unfoldable|pub|pattern|record) )*)([^\s(){}.;,@:]+)(?: \([^)]*\))* :(?=\s|$)")
 ALONE = {"search rules", "omega arith", "search needs"}
 USE = re.compile(r"^use ([^\s{]+?)\.\{([^}]*)\}\s*$|^use (\S+) as (\S+)\s*$|^use (\S+)\s*$", re.M)
 
@@ -130,6 +130,10 @@ class Function:
                 name = "[-_]".join(map(re.escape, re.split("[-_]", old)))
                 text = re.sub(rf"(?<![\w.'-])({re.escape(v)})\.{name}\.{re.escape(path)}(?![\w'-])", lambda m: f"{m[1]}.{new}", text)
             text = re.sub(rf"(?<![\w.'-])({re.escape(v)})\.([\w'-]+)", step, text)
+        text = re.sub(r"(\.if-[\w'-]+)\.taken\b", r"\1.true", text)
+        text = re.sub(r"(\.if-[\w'-]+)\.left\b", r"\1.false", text)
+        for v in variables:
+            text = re.sub(rf"(?<![\w.'-])({re.escape(v)})\.pre(?![\w'-])", r"\1.requires", text)
         # a test of `!x` says now what x is
         text = re.sub(r"\bnot-(?:true|false) (?:[\w'.-]+|\([^()]*\)) ([\w'-]+(?:\.[\w'-]+)*\.if-not-[\w'-]+\.(?:true|false))", r"\1", text)
         return text

@@ -16,7 +16,7 @@ pub const BROADCAST: u32 = 0;
 pub const ANSWER: u32 = 1;
 
 // The fields of a frame. The reader gives only a kind and a flag that go together; the writer judges those that it is given.
-#[derive(Drop)]
+#[derive(Clone, Copy)]
 pub struct Frame {
     pub kind: u32,
     pub flag: u32,

@@ -8,6 +8,7 @@ pub mod Firing
 pub mod RecordTrip
 pub mod Records
 pub mod Sent
+pub mod Settlings
 pub mod Single
 pub mod Which
 pub mod Wider

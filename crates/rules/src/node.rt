@@ -20,7 +20,7 @@ use search::greatest::find_greatest;
 use search::tops::is_reached;
 
 // The rule that fires next: none, R1 or R2, R3, R4 to tick l, R5 at tick x.
-#[derive(Drop)]
+#[derive(Clone, Copy)]
 pub enum Rule {
     Rest,
     Echo,
@@ -38,7 +38,7 @@ impl Rule {
     }
 }
 
-#[derive(Drop)]
+#[derive(Clone, Copy)]
 pub struct Node {
     // n, f and the own serial
     pub lines: u32,

@@ -1,0 +1,85 @@
+-- `Node::deliver` meets its contract: the rows that the rules look at are the credited ones, of a node that was at rest before, and what is
+-- said goes behind the answer.
+use borrow.Author.Rules.{rules}
+use mathlib.Core.Path.{◌≡◌, refl}
+use mathlib.Core.List.{List}
+use Prim.Native.Nat.{ℕ, ◌+◌}
+use native.Mathlib.Omega.{arith}
+use lib.ListN.{length}
+use Rattle.forms.specs.declared.frame.Frame.{Frame}
+use Rattle.sets.specs.Sets.{mask_bytes, mask_bits}
+use Rattle.evidence.specs.Rows.{put_rows, credit}
+use Rattle.evidence.proofs.Encoded.{credit_read_back}
+use Rattle.rules.specs.Delivery.{State, answer, credited, settled, delivered}
+use Rattle.rules.specs.Describe.{window, last_tick}
+use Rattle.rules.specs.Steps.{rows_from, state_from, SentAs, SettledAs, DeliveredAs}
+use Rattle.rules.specs.declared.node.Next.{Next}
+use Rattle.rules.proofs.Records.{sent_then}
+use Rattle.rules.proofs.node.Node.deliver.Goals as goal
+
+-- a credit, an answer and settling are a delivery
+delivers : (s : State) (port : ℕ) (frame : Frame) {b : List ℕ} {i : ℕ} {out mid after image : List ℕ} {start : ℕ} {r : Next}
+    → image ≡ put_rows mask_bytes b i (credited window s port frame)
+    → SentAs 1 (answer s.node port frame) 0 out start mid
+    → SettledAs (settled window last_tick s port frame) start mid r after
+    → DeliveredAs (delivered window last_tick s port frame) b i out r image after
+unfolding delivered
+delivers s port frame rows first h =
+    let all = sent_then first h.sent in
+    record {
+      node = h.node;
+      rows = rows;
+      records = omega (arith, all.records);
+      few = omega (arith, all.few);
+      bytes = all.bytes;
+      fired = h.fired;
+      allowed = h.allowed;
+    }
+
+-- they are those that the frame left, of a node that was at rest
+pub rule_after-first-requires : goal.rule_after-first-requires
+rule_after-first-requires c =
+    let stored : let a = c.args in let rows = credit window a.port a.frame.kind a.frame.tick (rows_from a.self a.b.now a.i) in c.credit_row.new.b ≡ put_rows mask_bytes a.b.now a.i rows =
+    c.credit_row.ensures in
+    let kept : let a = c.args in let rows = credit window a.port a.frame.kind a.frame.tick (rows_from a.self a.b.now a.i) in rows_from a.self c.credit_row.new.b a.i ≡ rows =
+    let start = c in
+    let a = start.args in
+    rw (stored)
+    (credit_read_back mask_bytes mask_bits window refl (omega arith) (omega arith) a.port a.frame.kind a.frame.tick
+    a.self.lines a.b.now a.i (λ k. (c.slice_known-1.given k).fits)
+    (omega (arith, start.well_formed.1.1.1.1.0)) start.requires.rows.inside) in
+    let credits = c in
+    let start = credits in
+    let a = start.args in (
+      search rules,
+      record {
+        before = rows_from a.self a.b.now a.i;
+        rest = start.requires.rest;
+        port = a.port;
+        kind = a.frame.kind;
+        which = refl;
+        after = kept;
+      },
+    )
+
+pub returns : goal.returns
+unfolding settled
+returns c =
+    let stored : let a = c.args in let rows = credit window a.port a.frame.kind a.frame.tick (rows_from a.self a.b.now a.i) in c.credit_row.new.b ≡ put_rows mask_bytes a.b.now a.i rows =
+    c.credit_row.ensures in
+    let kept : let a = c.args in let rows = credit window a.port a.frame.kind a.frame.tick (rows_from a.self a.b.now a.i) in rows_from a.self c.credit_row.new.b a.i ≡ rows =
+    let start = c in
+    let a = start.args in
+    rw (stored)
+    (credit_read_back mask_bytes mask_bits window refl (omega arith) (omega arith) a.port a.frame.kind a.frame.tick
+    a.self.lines a.b.now a.i (λ k. (c.slice_known-1.given k).fits)
+    (omega (arith, start.well_formed.1.1.1.1.0)) start.requires.rows.inside) in
+    let answered : let a = c.args in c.answer-start.result ≡ 0 + length (answer a.self a.port a.frame) =
+    omega arith in
+    let answers = c in
+    let credits = answers in
+    let a = credits.args in
+    let sent = answers.answer-start.ensures in
+    delivers (state_from a.self a.b.now a.i) a.port a.frame (stored)
+    (record { records = answered; few = sent.few; bytes = sent.bytes })
+    (rw (kept) at c.settle.ensures)

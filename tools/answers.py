@@ -23,10 +23,22 @@ def norm(name):
     return name.replace("-", "_")
 
 
+RAW = re.compile(r"^(?:pub )?(?:module _|record )")
+
+
 class Block:
     def __init__(self, comment, marks, name, lines):
         self.comment, self.marks, self.name = comment, marks, name
         text = "\n".join(lines).rstrip()
+        # a record or a module stays as it is, and is found by the names that it declares
+        self.raw = text if RAW.match(text) else None
+        self.names = [name]
+        if self.raw:
+            self.names = re.findall(r"^ +(?:(?:pub|abbrev|unfoldable) )*([^\s(){}.;,@:]+) :(?=\s|$)", text, re.M)
+            m = re.match(r"(?:pub )?record ([^\s]+)", text)
+            self.names = [m[1]] if m else self.names
+            self.sign, self.unfold, self.clauses = "", [], []
+            return
         m = HEAD.match(text)
         rest = text[m.end():]
         # signature, unfolding lines, clauses
@@ -52,6 +64,11 @@ def parse(text):
             if comment:
                 header += comment
                 comment = []
+            continue
+        if RAW.match(line):
+            current = [comment, "", "", [line]]
+            comment = []
+            blocks.append(current)
             continue
         m = HEAD.match(line)
         if m:
@@ -120,7 +137,7 @@ class Function:
 
     def turn(self, text, variables):
         """Paths behind c and its other names: flat, and with the steps' new names."""
-        text = strip_before(text)
+        text = re.sub(r"(\.[\w-]+)_lem(?![\w-])", r"\1", strip_before(text))
 
         def step(m):
             return f"{m[1]}.{self.steps.get(norm(m[2]), m[2])}"
@@ -155,7 +172,9 @@ class Function:
         places = {norm(p[0]) for p in self.row["places"]}
         helpers, plain, goals, loops, back = {}, [], [], [], {}
         for b in blocks:
-            if re.match(r"tie\.Need-", b.sign):
+            if b.raw:
+                plain.append(b)
+            elif re.match(r"tie\.Need-", b.sign):
                 goals.append(b)
             elif re.match(r"tie\.[Ii]nvariant", b.sign) or re.match(r"tie\.[Dd]ecreases", b.sign):
                 loops.append(b)
@@ -256,7 +275,12 @@ class Function:
             names = "|".join(re.escape(v) for v in variables)
             body = re.sub(rf"(?<![\w.'-]){re.escape(name)} (?:{names})(?:\.before)*(?![\w.'-])", name, body)
             body = re.sub(rf"(?<![\w.'-]){re.escape(name)} \((?:{names})(?:\.before)*\)", name, body)
-        return self.turn(body, variables), lets
+        body = self.turn(body, variables)
+        for name in helpers:
+            call = re.compile(rf"(?<![\w.'-]){re.escape(name)} (?:{re.escape(c)})(?![\w.'-])")
+            body = call.sub(name, body)
+            lets = [call.sub(name, l) for l in lets]
+        return body, lets
 
     def loop(self, b):
         kind = "invariant" if "nvariant" in b.sign else "decreases"
@@ -292,6 +316,8 @@ class Function:
 
     def write(self, header, uses, plain, answers, invariants):
         def text_of(b):
+            if b.raw:
+                return "\n".join(b.comment + [b.raw])
             return "\n".join(b.comment + [f"{b.marks}{b.name} : {b.sign}"] + (["unfolding " + " ".join(b.unfold)] if b.unfold else []) + b.clauses)
 
         def needs(name, text):
@@ -303,7 +329,7 @@ class Function:
             while again:
                 again = False
                 for b in plain:
-                    if b not in chosen and needs(b.name, whole):
+                    if b not in chosen and any(needs(n, whole) for n in b.names):
                         chosen.append(b)
                         whole += "\n" + text_of(b)
                         again = True

@@ -184,7 +184,7 @@ module _ (L : Layout) (last : ℕ) (works : Works L) (small : last < tick_count)
   observed_alike a b [] h = refl
   observed_alike a b (call ∷ calls) h =
       let m = called_alike a b call h in
-      ap₂ (λ (x : Seen) (l : List Seen). x ∷ l) m.0 (observed_alike _ _ calls m.1)
+      ap₂ (λ (x : Seen) (l : List Seen). x ∷ l) m.0 (observed_alike (called L last a call).image (called L last b call).image calls m.1)
 
   pub pair_observed : (a b : List ℕ) (calls : List Call) → Pair L last a b → observed L last a calls ≡ observed L last b calls
   pair_observed a b calls h = observed_alike a b calls (paired h)

@@ -16,7 +16,7 @@ const MASKS: u8 = Mask::BYTES as u8;
 
 pub const OLD_MASKS: u8 = 8;
 
-#[derive(Drop)]
+#[derive(Clone, Copy)]
 pub struct Layout {
     // ticks that a set reaches down from its top; the code takes it from `Node`, and contracts from here
     pub window: u32,

@@ -63,7 +63,7 @@ loop-behind-preserved c =
     let here = c.word-here.result in
     let marked = ap (λ (k : ℕ). get_or l.met k 0) c.bucket-k.ensures.0 in
     elim c.if-met-k-ne0.branch [
-      | then-met-k-ne0 w ↦ (omega (arith, w.count_word-twins.ensures.0), omega (arith, w.count_word-twins.ensures.1))
+      | then-met-k-ne0 w ↦ (omega arith, omega arith)
       | else-met-k-ne0 w ↦ let none = l.invariant.4 here (sym marked ∙ w.if-met-k-ne0.false) in (omega (arith, none), omega arith)
     ] in
     let a = c.args in

@@ -1,6 +1,6 @@
 -- Laws of signed numbers: the range of a sum and of its half, and that the half of two numbers lies between them.
 -- Assumes nothing.
-use Rattle.std.proofs.Common.{◌≡◌, ℕ, zero, suc, ◌+◌, ◌-◌, ◌*◌, ◌<◌, ◌≤◌, Bool, true, false, cond, ltb, ℤ, pos, negsuc, ◌+ℤ◌, neg_ℤ, refl, arith, ltb-true}
+use Rattle.std.proofs.Common.{◌≡◌, ℕ, zero, suc, ◌-◌, ◌*◌, ◌<◌, ◌≤◌, Bool, true, false, cond, ltb, ℤ, pos, negsuc, ◌+ℤ◌, neg_ℤ, refl, arith, ltb-true}
 use lib.IntN.{sub_ℕ}
 use lib.Signed.{mag}
 use Rattle.correction.specs.Middle.{half_down}

@@ -50,6 +50,7 @@ module _ (more expected : ℕ) (fits : expected < turn) where
 
 -- no difference is less than the least that there is
 pub inside : (e : ℕ) (readings : List ℕ) (d : ℤ) → Memᴰ d (differences e readings) → lt_z d least ≡ false
+inside e [] d m = elim m [ ]
 inside e (r ∷ rs) d (Memᴰ.head h) = ap (λ (z : ℤ). lt_z z least) h ∙ floor (difference r e) (difference_range r e)
   where
     floor : (z : ℤ) → mag z < half → lt_z z least ≡ false

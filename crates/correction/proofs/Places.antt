@@ -10,6 +10,7 @@ use Rattle.correction.specs.Good.{positions, GoodAt, difference_at}
 
 listed : {i : ℕ} (n : ℕ) → Memᴰ i (positions n) → i < n
 unfolding positions
+listed {i = i} zero m = elim m [ ]
 listed (suc n) (Memᴰ.head e) = omega (arith, e)
 listed (suc n) (Memᴰ.tail m) = omega (arith, listed n m)
 

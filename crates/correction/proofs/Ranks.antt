@@ -35,7 +35,7 @@ module _ (kept : ℤ → Bool) where
       go false t e f = f
 
   -- nor than any that is kept
-  greatest_most : {ds : List ℤ} (x : ℤ) → Memᴰ x ds → kept x ≡ true → lt_z (greatest_of kept ds) x ≡ false
+  greatest_most : (x : ℤ) {ds : List ℤ} → Memᴰ x ds → kept x ≡ true → lt_z (greatest_of kept ds) x ≡ false
   unfolding greatest_of
   greatest_most x (Memᴰ.head {x = d} {xs = ds} e) k = go (lt_z (greatest_of kept ds) d) (kept d) refl (ap kept (sym e) ∙ k)
     where
@@ -71,6 +71,7 @@ module _ (kept : ℤ → Bool) where
 -- ---- the same numbers in another order
 
 mem_order : {x : ℤ} {ds es : List ℤ} → Permᴰ ds es → Memᴰ x ds → Memᴰ x es
+mem_order Permᴰ.nil m = elim m [ ]
 mem_order (Permᴰ.cons e p) (Memᴰ.head h) = Memᴰ.head (h ∙ e)
 mem_order (Permᴰ.cons e p) (Memᴰ.tail m) = Memᴰ.tail (mem_order p m)
 mem_order (Permᴰ.swap e₁ e₂) (Memᴰ.head h) = Memᴰ.tail (Memᴰ.head (h ∙ e₁))

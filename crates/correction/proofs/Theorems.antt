@@ -2,7 +2,7 @@
 -- differences in Counter, ranks and the middle in Middle, the call in Correct, its rows of the table of numbers in Table, and what is said
 -- of good and bad readings in Good. That the code gives just these answers, for every input, is the contract of each function (src/).
 -- Assumes nothing.
-use Rattle.std.proofs.Common.{◌≡◌, ℕ, ◌+◌, ◌-◌, ◌<◌, ◌≤◌, Bool, List, [], ◌∷◌, map, ℤ, pos, negsuc, ◌+ℤ◌, neg_ℤ, ◌≤ℤ◌, sym, refl, ap, ◌∙◌, subst}
+use Rattle.std.proofs.Common.{◌≡◌, ℕ, ◌-◌, ◌<◌, ◌≤◌, Bool, List, [], ◌∷◌, map, ℤ, pos, negsuc, ◌+ℤ◌, neg_ℤ, ◌≤ℤ◌, sym, refl, ap, ◌∙◌, subst}
 use mathlib.Core.List.{Permᴰ}
 use lib.ListN.{length-map}
 use lib.IntN.{neg_ℤ-neg_ℤ}

@@ -9,7 +9,7 @@ use Rattle.packs.proofs.calls.write_sheet.Goals as goal
 pub returns-in-NotWritten : goal.returns-in-NotWritten
 returns-in-NotWritten c =
     let w = c.write_sheet in
-    let out = w.new.1.0 in
+    let out = w.new.out in
     ap (λ (n : ℕ). refused_write n out) c.number.ensures
     ∙ sym (ap (λ (r : Written). written_by r out) c.in-NotWritten.is)
     ∙ w.ensures
@@ -17,4 +17,4 @@ returns-in-NotWritten c =
 pub returns-in-Wrote : goal.returns-in-Wrote
 returns-in-Wrote c =
     let w = c.write_sheet in
-    sym (ap (λ (r : Written). written_by r w.new.1.0) c.in-Wrote.is) ∙ w.ensures
+    sym (ap (λ (r : Written). written_by r w.new.out) c.in-Wrote.is) ∙ w.ensures

@@ -12,7 +12,7 @@ use Rattle.packs.proofs.question.ask.Goals as goal
 pub returns-then-told-eq8 : goal.returns-then-told-eq8
 returns-then-told-eq8 c =
     let number : (reading layout last_tick c.args.image.now).number ≡ c.read-told.result.number =
-        ap (λ (r : Reading). r.number) (sym c.read-told.ensures) in
+    ap (λ (r : Reading). r.number) (sym c.read-told.ensures) in
     let a = c.args in
     let read = c in
     sym (pack_unread layout last_tick a.sheet.now a.pack a.image.now Image (number ∙ c.if-told-eq8.true))
@@ -20,7 +20,7 @@ returns-then-told-eq8 c =
 pub returns-then-told-ne0 : goal.returns-then-told-ne0
 returns-then-told-ne0 c =
     let number : (reading layout last_tick c.args.image.now).number ≡ c.read-told.result.number =
-        ap (λ (r : Reading). r.number) (sym c.read-told.ensures) in
+    ap (λ (r : Reading). r.number) (sym c.read-told.ensures) in
     let a = c.args in
     let read = c in
     let unsound = c.if-told-eq8.false in
@@ -32,16 +32,16 @@ returns-then-told-ne0 c =
 pub find_licence-requires : goal.find_licence-requires
 find_licence-requires c =
     let taken : let b = c.args.sheet.now in (sheet_number b ≡ 0) × (c.in-Taken.count ≡ count_of b) =
-        let b = c.args.sheet.now in
-            told_taken b c.in-Taken.count
-            (ap told_by (sym c.in-Taken.is) ∙ c.read_sheet.ensures) in
+    let b = c.args.sheet.now in
+    told_taken b c.in-Taken.count
+    (ap told_by (sym c.in-Taken.is) ∙ c.read_sheet.ensures) in
     let b = c.args.sheet.now in
     rw (taken).1 (sheet_lines b (taken).0)
 
 pub returns-in-Refused : goal.returns-in-Refused
 returns-in-Refused c =
     let number : (reading layout last_tick c.args.image.now).number ≡ c.read-told.result.number =
-        ap (λ (r : Reading). r.number) (sym c.read-told.ensures) in
+    ap (λ (r : Reading). r.number) (sym c.read-told.ensures) in
     let a = c.args in
     let why = c.in-Refused.why in
     let clock = number ∙ c.if-told-ne0.false in
@@ -51,11 +51,11 @@ returns-in-Refused c =
 pub returns-in-Taken : goal.returns-in-Taken
 returns-in-Taken c =
     let number : (reading layout last_tick c.args.image.now).number ≡ c.read-told.result.number =
-        ap (λ (r : Reading). r.number) (sym c.read-told.ensures) in
+    ap (λ (r : Reading). r.number) (sym c.read-told.ensures) in
     let taken : let b = c.args.sheet.now in (sheet_number b ≡ 0) × (c.in-Taken.count ≡ count_of b) =
-        let b = c.args.sheet.now in
-            told_taken b c.in-Taken.count
-            (ap told_by (sym c.in-Taken.is) ∙ c.read_sheet.ensures) in
+    let b = c.args.sheet.now in
+    told_taken b c.in-Taken.count
+    (ap told_by (sym c.in-Taken.is) ∙ c.read_sheet.ensures) in
     let a = c.args in
     let read = c in
     let clock = number ∙ c.if-told-ne0.false in

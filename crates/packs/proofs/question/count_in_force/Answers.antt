@@ -6,6 +6,7 @@ use mathlib.Core.Logic.{⊎_elim}
 use native.Mathlib.Omega.{arith}
 use Rattle.packs.specs.Question.{entry_in_force}
 use Rattle.packs.proofs.Entries.{many_end, many_step}
+use Rattle.packs.proofs.question.count_in_force.Goals.{then-is_in_force, else-is_in_force}
 use Rattle.packs.proofs.question.count_in_force.Goals as goal
 
 pub loop-left-preserved : goal.loop-left-preserved
@@ -16,10 +17,10 @@ loop-left-preserved c =
     let p = c.loop-left-test.true in
     let entry = sym c.entry_at.ensures in
     let found = ap (entry_in_force a.pack a.tick) entry ∙ sym c.is_in_force.ensures in
-    ⊎_elim
-    (λ w. omega (arith, step true p (found ∙ w.0.taken)))
-    (λ w. omega (arith, step false p (found ∙ w.0.left)))
-    c.if-is_in_force.branch
+    elim c.if-is_in_force.branch [
+      | then-is_in_force w ↦ omega (arith, w.found-is, step true p (found ∙ w.if-is_in_force.true))
+      | else-is_in_force w ↦ omega (arith, w.found-is, step false p (found ∙ w.if-is_in_force.false))
+    ]
 
 pub returns : goal.returns
 returns c =

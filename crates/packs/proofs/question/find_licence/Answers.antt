@@ -30,24 +30,24 @@ module _ (pack tick : ℕ) (es : List Entry) where
 pub returns-then-count_in_force-gt0 : goal.returns-then-count_in_force-gt0
 returns-then-count_in_force-gt0 c =
     let entries : List Entry =
-        let a = c.args in entries_in a.n a.sheet.now entries_place in
+    let a = c.args in entries_in a.n a.sheet.now entries_place in
     let d = c in
     sym (some-in-force d.args.pack d.args.tick (entries) (omega arith))
 
 pub returns-then-count_word-gt0 : goal.returns-then-count_word-gt0
 returns-then-count_word-gt0 c =
     let entries : List Entry =
-        let a = c.args in entries_in a.n a.sheet.now entries_place in
+    let a = c.args in entries_in a.n a.sheet.now entries_place in
     let listed : let a = c.args in count a.pack (packs (entries)) ≡ count a.pack (words a.n entry_size a.sheet.now entries_place) =
-        let a = c.args in ap (count a.pack) (packs_words a.n a.sheet.now entries_place) in
+    let a = c.args in ap (count a.pack) (packs_words a.n a.sheet.now entries_place) in
     let d = c in
     sym (none-in-force d.args.pack d.args.tick (entries) (omega arith) (omega (arith, listed)))
 
 pub returns : goal.returns
 returns c =
     let entries : List Entry =
-        let a = c.args in entries_in a.n a.sheet.now entries_place in
+    let a = c.args in entries_in a.n a.sheet.now entries_place in
     let listed : let a = c.args in count a.pack (packs (entries)) ≡ count a.pack (words a.n entry_size a.sheet.now entries_place) =
-        let a = c.args in ap (count a.pack) (packs_words a.n a.sheet.now entries_place) in
+    let a = c.args in ap (count a.pack) (packs_words a.n a.sheet.now entries_place) in
     let d = c in
     sym (none-listed d.args.pack d.args.tick (entries) (omega arith) (omega (arith, listed)))

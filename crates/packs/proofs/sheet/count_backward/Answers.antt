@@ -8,6 +8,7 @@ use borrow.Author.Tests.{lt-ltb, le-ltb}
 use Rattle.fields.specs.Field.{field}
 use Rattle.packs.specs.Sheet.{first_place, end_place, backward}
 use Rattle.packs.proofs.Entries.{many_end, many_step}
+use Rattle.packs.proofs.sheet.count_backward.Goals.{then-word, else-word}
 use Rattle.packs.proofs.sheet.count_backward.Goals as goal
 
 pub loop-left-preserved : goal.loop-left-preserved
@@ -17,10 +18,10 @@ loop-left-preserved c =
     let p = c.loop-left-test.true in
     let end = field 4 b (l.at + end_place) in
     let first = field 4 b (l.at + first_place) in
-    ⊎_elim
-    (λ w. omega (arith, many_step backward l.left b l.at true p (lt-ltb end first (omega arith))))
-    (λ w. omega (arith, many_step backward l.left b l.at false p (le-ltb end first (omega arith))))
-    c.if-word.branch
+    elim c.if-word.branch [
+      | then-word w ↦ omega (arith, w.found-is, many_step backward l.left b l.at true p (lt-ltb end first (omega (arith, w.if-word.true))))
+      | else-word w ↦ omega (arith, w.found-is, many_step backward l.left b l.at false p (le-ltb end first (omega (arith, w.if-word.false))))
+    ]
 
 pub returns : goal.returns
 returns c =

@@ -14,18 +14,18 @@ pub returns-then-count_word-gt0 : goal.returns-then-count_word-gt0
 unfolding entries_number
 returns-then-count_word-gt0 c =
     let entries : List Entry =
-        let a = c.args in entries_in a.n a.b.now a.i in
+    let a = c.args in entries_in a.n a.b.now a.i in
     let zeros : let a = c.args in count 0 (packs (entries)) ≡ count 0 (words a.n entry_size a.b.now a.i) =
-        let a = c.args in ap (count 0) (packs_words a.n a.b.now a.i) in
+    let a = c.args in ap (count 0) (packs_words a.n a.b.now a.i) in
     let d = c in rw (lt-ltb 0 (count 0 (packs (entries))) (omega (arith, zeros)))
 
 pub returns-then-has_twins : goal.returns-then-has_twins
 unfolding entries_number
 returns-then-has_twins c =
     let entries : List Entry =
-        let a = c.args in entries_in a.n a.b.now a.i in
+    let a = c.args in entries_in a.n a.b.now a.i in
     let zeros : let a = c.args in count 0 (packs (entries)) ≡ count 0 (words a.n entry_size a.b.now a.i) =
-        let a = c.args in ap (count 0) (packs_words a.n a.b.now a.i) in
+    let a = c.args in ap (count 0) (packs_words a.n a.b.now a.i) in
     let d = c in
     rw (
       le-ltb 0 (count 0 (packs (entries))) (omega (arith, zeros)),
@@ -36,9 +36,9 @@ pub returns-then-count_backward-gt0 : goal.returns-then-count_backward-gt0
 unfolding entries_number
 returns-then-count_backward-gt0 c =
     let entries : List Entry =
-        let a = c.args in entries_in a.n a.b.now a.i in
+    let a = c.args in entries_in a.n a.b.now a.i in
     let zeros : let a = c.args in count 0 (packs (entries)) ≡ count 0 (words a.n entry_size a.b.now a.i) =
-        let a = c.args in ap (count 0) (packs_words a.n a.b.now a.i) in
+    let a = c.args in ap (count 0) (packs_words a.n a.b.now a.i) in
     let d = c in
     rw (
       le-ltb 0 (count 0 (packs (entries))) (omega (arith, zeros)),
@@ -50,9 +50,9 @@ pub returns : goal.returns
 unfolding entries_number
 returns c =
     let entries : List Entry =
-        let a = c.args in entries_in a.n a.b.now a.i in
+    let a = c.args in entries_in a.n a.b.now a.i in
     let zeros : let a = c.args in count 0 (packs (entries)) ≡ count 0 (words a.n entry_size a.b.now a.i) =
-        let a = c.args in ap (count 0) (packs_words a.n a.b.now a.i) in
+    let a = c.args in ap (count 0) (packs_words a.n a.b.now a.i) in
     let d = c in
     rw (
       le-ltb 0 (count 0 (packs (entries))) (omega (arith, zeros)),

@@ -12,8 +12,8 @@ use Rattle.packs.proofs.sheet.read_entry.Goals as goal
 pub entry_at-requires : goal.entry_at-requires
 entry_at-requires c =
     let taken : let b = c.args.b.now in (sheet_number b ≡ 0) × (c.in-Taken.count ≡ count_of b) =
-        told_taken c.args.b.now c.in-Taken.count
-            (ap told_by (sym c.in-Taken.is) ∙ c.read_sheet.ensures) in
+    told_taken c.args.b.now c.in-Taken.count
+    (ap told_by (sym c.in-Taken.is) ∙ c.read_sheet.ensures) in
     let t = taken in
     let b = c.args.b.now in
     omega (arith, t.1, (sheet_lines b t.0).inside)
@@ -22,8 +22,8 @@ pub returns-then-line-count : goal.returns-then-line-count
 unfolding entry_on
 returns-then-line-count c =
     let taken : let b = c.args.b.now in (sheet_number b ≡ 0) × (c.in-Taken.count ≡ count_of b) =
-        told_taken c.args.b.now c.in-Taken.count
-            (ap told_by (sym c.in-Taken.is) ∙ c.read_sheet.ensures) in
+    told_taken c.args.b.now c.in-Taken.count
+    (ap told_by (sym c.in-Taken.is) ∙ c.read_sheet.ensures) in
     let a = c.args in
     let b = a.b.now in
     let t = taken in
@@ -37,8 +37,8 @@ pub returns-else-line-count : goal.returns-else-line-count
 unfolding entry_on
 returns-else-line-count c =
     let taken : let b = c.args.b.now in (sheet_number b ≡ 0) × (c.in-Taken.count ≡ count_of b) =
-        told_taken c.args.b.now c.in-Taken.count
-            (ap told_by (sym c.in-Taken.is) ∙ c.read_sheet.ensures) in
+    told_taken c.args.b.now c.in-Taken.count
+    (ap told_by (sym c.in-Taken.is) ∙ c.read_sheet.ensures) in
     let a = c.args in
     let b = a.b.now in
     let t = taken in

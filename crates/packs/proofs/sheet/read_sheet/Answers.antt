@@ -44,15 +44,15 @@ pub returns-in-Broken : goal.returns-in-Broken
 unfolding sheet_number
 returns-in-Broken c =
     let number : sheet_number c.args.b.now ≡ verdict_of c.judge.result =
-        let b = c.args.b.now in
-            rw (
-              le-ltb (length b) entries_place c.if-b-lt-ENTRIES.false,
-              eq-eqb (offset_of b) entries_place (omega arith),
-              le-ltb most_entries (count_of b) (omega arith),
-              eq-eqb (length b) (sheet_size (count_of b)) (omega arith),
-              ← c.half-count.ensures,
-              ← c.judge.ensures,
-            ) in
+    let b = c.args.b.now in
+    rw (
+      le-ltb (length b) entries_place c.if-b-lt-ENTRIES.false,
+      eq-eqb (offset_of b) entries_place (omega arith),
+      le-ltb most_entries (count_of b) (omega arith),
+      eq-eqb (length b) (sheet_size (count_of b)) (omega arith),
+      ← c.half-count.ensures,
+      ← c.judge.ensures,
+    ) in
     let b = c.args.b.now in
     sym (refused_sheet_lem b c.in-Broken.why (number ∙ ap verdict_of c.in-Broken.is))
 
@@ -60,15 +60,15 @@ pub returns-in-Sound : goal.returns-in-Sound
 unfolding sheet_number
 returns-in-Sound c =
     let number : sheet_number c.args.b.now ≡ verdict_of c.judge.result =
-        let b = c.args.b.now in
-            rw (
-              le-ltb (length b) entries_place c.if-b-lt-ENTRIES.false,
-              eq-eqb (offset_of b) entries_place (omega arith),
-              le-ltb most_entries (count_of b) (omega arith),
-              eq-eqb (length b) (sheet_size (count_of b)) (omega arith),
-              ← c.half-count.ensures,
-              ← c.judge.ensures,
-            ) in
+    let b = c.args.b.now in
+    rw (
+      le-ltb (length b) entries_place c.if-b-lt-ENTRIES.false,
+      eq-eqb (offset_of b) entries_place (omega arith),
+      le-ltb most_entries (count_of b) (omega arith),
+      eq-eqb (length b) (sheet_size (count_of b)) (omega arith),
+      ← c.half-count.ensures,
+      ← c.judge.ensures,
+    ) in
     let b = c.args.b.now in
     rw c.half-count.ensures
     (sym (sheet_taken b (number ∙ ap verdict_of c.in-Sound.is)))

@@ -5,25 +5,26 @@
 #![tactic(auto)]
 
 use converter::calls::{MOST_OLD_IMAGE, convert};
-use libc::{STDERR_FILENO, STDIN_FILENO, STDOUT_FILENO};
 use node::image::MOST_IMAGE;
+use std::io;
+use text::input::read_full;
 
-fn main() {
+fn main(rt: HostRuntime) -> io::Result<()> {
     let mut old = [0u8; MOST_OLD_IMAGE];
-    let size = io::read_full(STDIN_FILENO, &mut old);
+    let size = read_full(&mut rt.reader(), &mut old);
     let mut image = [0u8; MOST_IMAGE];
     let done = convert(&old[..size], &mut image);
     if done.number != 0 {
-        io::write_all(STDERR_FILENO, b"refused ");
-        io::print_decimal(STDERR_FILENO, done.number as u64);
-        io::write_all(STDERR_FILENO, b"\n");
-        return;
+        let number = done.number;
+        eprintln!(rt; "refused {number}")?;
+        return Ok(());
     }
     let written = done.written as usize;
     // an image always fits the room of the longest
     if written <= MOST_IMAGE {
-        if !io::write_all(STDOUT_FILENO, &image[..written]) {
-            io::write_all(STDERR_FILENO, b"cannot write\n");
+        if rt.write_all(&image[..written]).is_err() {
+            eprintln!(rt; "cannot write")?;
         }
     }
+    Ok(())
 }

@@ -1,7 +1,7 @@
 // A case of the input: a head, the label, and the bytes that the call is given. The head has the call's number and the length of
 // the label, in two bytes each, the length of the bytes, in four, and what `Case` has; all of it big-endian.
 // tests/model/edges.py writes it.
-ghost use Rattle.std.specs.Prelude.{◌≤◌, length};
+ghost use Rattle.std.specs.Prelude.{◌≤◌, IfOk, length};
 
 use crate::set::WINDOW;
 use crate::{field, mask, read, row, say, set, write};
@@ -11,6 +11,7 @@ use forms::form::read_serial;
 use search::greatest::find_greatest;
 use sets::mask::Mask;
 use sets::ticks::Ticks;
+use std::io;
 
 // Bytes of a head.
 const HEAD: usize = 64;
@@ -51,21 +52,21 @@ fn head(b: &[u8]) -> Case
 }
 
 // Makes a call of a mask at a place of it, and prints what came back.
-fn call_mask(number: u32, m: Mask, place: u32) {
+fn call_mask(rt: &impl Print, number: u32, m: Mask, place: u32) -> io::Result<()> {
     match number {
-        16 => mask::store(m),
-        17 => mask::bit(m, place),
-        18 => mask::word_at(m, place),
-        19 => mask::below(m, place),
-        20 => mask::up(m, place),
-        21 => mask::cut(m, place),
-        22 => mask::mark(m, place),
-        _ => say::bad(),
+        16 => mask::store(rt, m),
+        17 => mask::bit(rt, m, place),
+        18 => mask::word_at(rt, m, place),
+        19 => mask::below(rt, m, place),
+        20 => mask::up(rt, m, place),
+        21 => mask::cut(rt, m, place),
+        22 => mask::mark(rt, m, place),
+        _ => say::bad(rt),
     }
 }
 
 // Makes a call of a set, or of the crates `evidence` or `search`, and prints what came back. Rows are as many as the bytes have.
-fn call_evidence(number: u32, case: Case, b: &[u8]) {
+fn call_evidence(rt: &impl Print, number: u32, case: Case, b: &[u8]) -> io::Result<()> {
     let held = case.mask;
     let s = Ticks {
         top: case.top,
@@ -74,46 +75,46 @@ fn call_evidence(number: u32, case: Case, b: &[u8]) {
     let n = b.len() / ROW;
     let m = case.count as usize;
     match number {
-        8 => set::show(Ticks::none()),
-        9 => set::show(s.after(WINDOW, case.kind, case.tick)),
-        10 => say::number(s.holds(WINDOW, case.tick) as u64),
-        11 => set::show_proper(s),
-        12 => row::show(b),
-        13 => row::find(case.serial, b),
-        14 => row::ask(case.kind, case.tick, m, b),
-        15 => say::number(find_greatest(b, 0, n, case.kind, WINDOW, m, case.value)),
-        _ => call_mask(number, held, case.count),
+        8 => set::show(rt, Ticks::none()),
+        9 => set::show(rt, s.after(WINDOW, case.kind, case.tick)),
+        10 => say::number(rt, s.holds(WINDOW, case.tick) as u64),
+        11 => set::show_proper(rt, s),
+        12 => row::show(rt, b),
+        13 => row::find(rt, case.serial, b),
+        14 => row::ask(rt, case.kind, case.tick, m, b),
+        15 => say::number(rt, find_greatest(b, 0, n, case.kind, WINDOW, m, case.value)),
+        _ => call_mask(rt, number, held, case.count),
     }
 }
 
 // Makes a call of the crate `forms`, or one of the others.
-fn call(number: u32, case: Case, b: &[u8]) {
+fn call(rt: &impl Print, number: u32, case: Case, b: &[u8]) -> io::Result<()> {
     match number {
-        0 => field::store_half(case.count),
-        1 => field::store_word(case.count),
-        2 => field::store_long(case.value),
-        3 => read::form(b),
-        4 => say::number(read_serial(b, case.value as usize) as u64),
-        5 => read::frame(case.last, b),
-        6 | 7 => write::run(number == 7, case, b),
-        _ => call_evidence(number, case, b),
+        0 => field::store_half(rt, case.count),
+        1 => field::store_word(rt, case.count),
+        2 => field::store_long(rt, case.value),
+        3 => read::form(rt, b),
+        4 => say::number(rt, read_serial(b, case.value as usize) as u64),
+        5 => read::frame(rt, case.last, b),
+        6 | 7 => write::run(rt, number == 7, case, b),
+        _ => call_evidence(rt, number, case, b),
     }
 }
 
 // Runs the first case and prints its line. How many bytes the case has, or 0 where it is cut short.
-pub(crate) fn run(b: &[u8]) -> usize
-    ensures { result ≤ length b.now }
+pub(crate) fn run(rt: &impl Print, b: &[u8]) -> io::Result<usize>
+    ensures { IfOk result (λ used. used ≤ length b.now) }
 {
     if b.len() < HEAD {
-        return 0;
+        return Ok(0);
     }
     let start = HEAD + half(b, 2) as usize;
     let end = start + word(b, 4) as usize;
     if b.len() < end {
-        return 0;
+        return Ok(0);
     }
-    io::write_all(1, &b[HEAD..start]);
-    call(half(b, 0), head(b), &b[start..end]);
-    say::end();
-    end
+    rt.write_all(&b[HEAD..start])?;
+    call(rt, half(b, 0), head(b), &b[start..end])?;
+    say::end(rt)?;
+    Ok(end)
 }

@@ -12,21 +12,27 @@ mod say;
 mod set;
 mod write;
 
+use std::io;
+use text::input::read_full;
+
+// Bytes that are read at most.
+const MOST: usize = 65_536;
+
 // Runs one case after the other, up to the first that is cut short.
-fn run_all(b: &[u8]) {
+fn run_all(rt: &impl Print, b: &[u8]) -> io::Result<()> {
     let mut at = 0;
     while at < b.len() {
-        let used = case::run(&b[at..]);
+        let used = case::run(rt, &b[at..])?;
         if used == 0 {
-            say::bad();
-            return;
+            return say::bad(rt);
         }
         at += used;
     }
+    Ok(())
 }
 
-fn main() {
-    let mut b = io::large_buffer();
-    let size = io::read_full(0, &mut b);
-    run_all(&b[..size]);
+fn main(rt: HostRuntime) -> io::Result<()> {
+    let mut b = [0u8; MOST];
+    let size = read_full(&mut rt.reader(), &mut b);
+    run_all(&rt, &b[..size])
 }

@@ -3,29 +3,30 @@
 use crate::say;
 use forms::form::{FormRead, read_form};
 use forms::frame::{FrameRead, read_frame};
+use std::io;
 
-pub(crate) fn form(b: &[u8]) {
+pub(crate) fn form(rt: &impl Print, b: &[u8]) -> io::Result<()> {
     match read_form(b) {
         FormRead::Refused(why) => {
-            say::pair(why.number(), 0);
-            say::pair(0, 0);
+            say::pair(rt, why.number(), 0)?;
+            say::pair(rt, 0, 0)
         }
         FormRead::Taken(form) => {
-            say::pair(0, form.lines);
-            say::pair(form.faults, form.own);
+            say::pair(rt, 0, form.lines)?;
+            say::pair(rt, form.faults, form.own)
         }
     }
 }
 
-pub(crate) fn frame(last: u32, b: &[u8]) {
+pub(crate) fn frame(rt: &impl Print, last: u32, b: &[u8]) -> io::Result<()> {
     match read_frame(b, last) {
         FrameRead::Refused(why) => {
-            say::pair(why.number(), 0);
-            say::pair(0, 0);
+            say::pair(rt, why.number(), 0)?;
+            say::pair(rt, 0, 0)
         }
         FrameRead::Taken(frame) => {
-            say::pair(0, frame.kind);
-            say::pair(frame.flag, frame.tick);
+            say::pair(rt, 0, frame.kind)?;
+            say::pair(rt, frame.flag, frame.tick)
         }
     }
 }

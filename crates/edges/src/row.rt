@@ -5,6 +5,7 @@ use evidence::early::decide;
 use evidence::rows::{Found, ROW, credit_row, find_row};
 use fields::field::word;
 use forms::column::count_word;
+use std::io;
 
 // The rows, and their bytes.
 const LINES: usize = 4;
@@ -22,36 +23,34 @@ fn credit(rows: &mut [u8; SIZE], serial: u32, kind: u32, tick: u32) {
 }
 
 // Credits the frames in b, and shows the rows.
-fn credit_all(rows: &mut [u8; SIZE], b: &[u8]) {
+fn credit_all(rt: &impl Print, rows: &mut [u8; SIZE], b: &[u8]) -> io::Result<()> {
     let mut at = 0;
     while at + CREDIT <= b.len() {
         credit(rows, word(b, at), word(b, at + 4), word(b, at + 8));
         at += CREDIT;
     }
-    say::bytes(rows);
+    say::bytes(rt, rows)
 }
 
 // The rows of the serials 11, 22, 33 and 44, each of which its last byte holds, after the frames in b.
-pub(crate) fn show(b: &[u8]) {
+pub(crate) fn show(rt: &impl Print, b: &[u8]) -> io::Result<()> {
     let mut rows = [0u8; SIZE];
     rows[3] = 11;
     rows[ROW + 3] = 22;
     rows[2 * ROW + 3] = 33;
     rows[3 * ROW + 3] = 44;
-    credit_all(&mut rows, b);
+    credit_all(rt, &mut rows, b)
 }
 
-pub(crate) fn find(serial: u32, rows: &[u8]) {
+pub(crate) fn find(rt: &impl Print, serial: u32, rows: &[u8]) -> io::Result<()> {
     match find_row(rows, 0, rows.len() / ROW, serial) {
-        Found::At(k) => say::number(k as u64),
-        Found::Nowhere => {
-            io::write_all(1, b" nowhere");
-        }
+        Found::At(k) => say::number(rt, k as u64),
+        Found::Nowhere => rt.write_all(b" nowhere"),
     }
 }
 
-pub(crate) fn ask(kind: u32, tick: u32, m: usize, rows: &[u8]) {
+pub(crate) fn ask(rt: &impl Print, kind: u32, tick: u32, m: usize, rows: &[u8]) -> io::Result<()> {
     let told = decide(rows, 0, rows.len() / ROW, kind, WINDOW, tick, m);
-    say::yes_or_no(told.held);
-    say::number(told.read as u64);
+    say::yes_or_no(rt, told.held)?;
+    say::number(rt, told.read as u64)
 }

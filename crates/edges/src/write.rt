@@ -7,6 +7,7 @@ use fields::field::word;
 use forms::form::{SERIALS, write_form};
 use forms::frame::{Frame, write_frame};
 use forms::roster::MOST_LINES;
+use std::io;
 
 // Bytes of the longest form.
 const ROOM: usize = SERIALS + 4 * MOST_LINES;
@@ -28,7 +29,7 @@ fn serials(b: &[u8]) -> [u32; LONGEST] {
     list
 }
 
-pub(crate) fn run(framed: bool, case: Case, b: &[u8]) {
+pub(crate) fn run(rt: &impl Print, framed: bool, case: Case, b: &[u8]) -> io::Result<()> {
     let room = case.room % (ROOM + 1);
     let mut all = [0xeeu8; ROOM];
     let out = &mut all[0..room];
@@ -44,5 +45,5 @@ pub(crate) fn run(framed: bool, case: Case, b: &[u8]) {
         let n = b.len() / 4 % (LONGEST + 1);
         write_form(case.count, case.serial, &list[0..n], out)
     };
-    say::written(answer, out);
+    say::written(rt, answer, out)
 }

@@ -4,8 +4,8 @@
 use mathlib.Core.Path.{◌≡◌, refl}
 use mathlib.Core.List.{List, [], ◌∷◌}
 use Prim.Native.Nat.{ℕ}
-use Rattle.log.specs.Listing.{line_room, listing_room}
-use Rattle.log.specs.Log.{form_place, event_size, most_events, least_form, most_form, least_offset, most_offset, log_number, log_told}
+use Rattle.logs.specs.Listing.{line_room, listing_room}
+use Rattle.logs.specs.Log.{form_place, event_size, most_events, least_form, most_form, least_offset, most_offset, log_number, log_told}
 use Rattle.fields.specs.Field.{field}
 
 limits : (form_place ≡ 12) × (event_size ≡ 12) × (most_events ≡ 4096) × (least_form ≡ 8) × (most_form ≡ 1000) × (least_offset ≡ 20)

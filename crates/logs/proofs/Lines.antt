@@ -12,8 +12,8 @@ use Rattle.node.specs.Calls.{Outcome}
 use Rattle.node.specs.Image.{node_of}
 use Rattle.node.specs.declared.layout.Layout.{Layout}
 use Rattle.text.specs.Puts.{Puts}
-use Rattle.log.specs.Listing.{line, line_room, line_of, event_call, event_lines, call_lines}
-use Rattle.log.specs.Log.{event_size, count_of, events_at}
+use Rattle.logs.specs.Listing.{line, line_room, line_of, event_call, event_lines, call_lines}
+use Rattle.logs.specs.Log.{event_size, count_of, events_at}
 
 -- a line that shows a call's number and records, and the k and mode of its image, is the call's line
 pub puts_call : {out after : List ℕ} {i next k : ℕ} (e : ℕ) {o called : Outcome} → o ≡ called → k ≡ field 4 o.image 8 →

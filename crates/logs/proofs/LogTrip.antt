@@ -13,12 +13,12 @@ use Rattle.fields.proofs.Fields.{drop_put, field_same, field_put, field_put_othe
 use Rattle.forms.proofs.Meaning.{told}
 use Rattle.text.specs.Lay.{lay}
 use Rattle.text.proofs.Lays.{take_lay, drop_lay, length_lay}
-use Rattle.log.specs.Log.{form_place, event_size, count_of, form_at, events_at, form_of, events_of, log_number, LogTold, log_told}
-use Rattle.log.specs.Log.{log_size, put_head, put_log, log_written}
-use Rattle.log.specs.Table.{Laid, Fit}
-use Rattle.log.proofs.Meaning.{log_taken, log_told_lem}
-use Rattle.log.proofs.Logs.{told_laid, written_fit}
-use Rattle.log.proofs.Logs.{Answer, wrote, refused, answer}
+use Rattle.logs.specs.Log.{form_place, event_size, count_of, form_at, events_at, form_of, events_of, log_number, LogTold, log_told}
+use Rattle.logs.specs.Log.{log_size, put_head, put_log, log_written}
+use Rattle.logs.specs.Table.{Laid, Fit}
+use Rattle.logs.proofs.Meaning.{log_taken, log_told_lem}
+use Rattle.logs.proofs.Logs.{told_laid, written_fit}
+use Rattle.logs.proofs.Logs.{Answer, wrote, refused, answer}
 
 -- ---- the bytes that the writer leaves
 

@@ -13,9 +13,9 @@ use lib.Dec.{ltb, eqb}
 use borrow.Author.Tests.{ltb-true, ltb-false, eqb-true, eqb-false, lt-ltb, le-ltb}
 use Rattle.forms.specs.Form.{WriteTold, done_write, refused_write}
 use Rattle.forms.proofs.Meaning.{Decides}
-use Rattle.log.specs.Log.{form_place, event_size, most_events, least_form, most_form, least_offset, most_offset, count_of, form_at, events_at}
-use Rattle.log.specs.Log.{broken, log_number, refused_log, log_told, unfit, write_number, log_size, put_log, log_written}
-use Rattle.log.specs.Table.{Laid, Fit}
+use Rattle.logs.specs.Log.{form_place, event_size, most_events, least_form, most_form, least_offset, most_offset, count_of, form_at, events_at}
+use Rattle.logs.specs.Log.{broken, log_number, refused_log, log_told, unfit, write_number, log_size, put_log, log_written}
+use Rattle.logs.specs.Table.{Laid, Fit}
 
 -- ---- the tests
 

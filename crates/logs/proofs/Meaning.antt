@@ -9,9 +9,9 @@ use native.Mathlib.Omega.{arith}
 use lib.ListN.{length}
 use Rattle.forms.specs.Table.{Says}
 use Rattle.forms.proofs.Meaning.{less, in_front, none, past, told, write_number_lem}
-use Rattle.log.specs.Log.{broken, log_number, LogTold, log_told, write_number, log_size, log_written}
-use Rattle.log.specs.Table.{Laid, Fit, log_checks, log_writer_checks}
-use Rattle.log.proofs.Logs.{Judged, log_judged, write_judged, judged_decides, told_laid, told_broken}
+use Rattle.logs.specs.Log.{broken, log_number, LogTold, log_told, write_number, log_size, log_written}
+use Rattle.logs.specs.Table.{Laid, Fit, log_checks, log_writer_checks}
+use Rattle.logs.proofs.Logs.{Judged, log_judged, write_judged, judged_decides, told_laid, told_broken}
 
 -- the reader takes a log exactly where its layout holds
 pub log_taken : (b : List ℕ) → ((log_told b).number ≡ 0) ↔ Laid b

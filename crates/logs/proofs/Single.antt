@@ -8,14 +8,14 @@ use Prim.Native.Nat.{ℕ}
 use lib.Dec.{eqb}
 use Rattle.forms.specs.Form.{WriteTold}
 use Rattle.forms.proofs.Single.{one_answer, one_write}
-use Rattle.log.specs.Log.{LogTold, told_by, written_by}
-use Rattle.log.specs.Played.{played_by}
-use Rattle.log.specs.declared.file.LogRead.{LogRead}
-use Rattle.log.specs.declared.file.LogRead.TheVariants.{Taken, Refused}
-use Rattle.log.specs.declared.file.LogWritten.{LogWritten}
-use Rattle.log.specs.declared.file.LogWritten.TheVariants as write
-use Rattle.log.specs.declared.player.Played.{Played}
-use Rattle.log.specs.declared.player.Played.TheVariants as play
+use Rattle.logs.specs.Log.{LogTold, told_by, written_by}
+use Rattle.logs.specs.Played.{played_by}
+use Rattle.logs.specs.declared.file.LogRead.{LogRead}
+use Rattle.logs.specs.declared.file.LogRead.TheVariants.{Taken, Refused}
+use Rattle.logs.specs.declared.file.LogWritten.{LogWritten}
+use Rattle.logs.specs.declared.file.LogWritten.TheVariants as write
+use Rattle.logs.specs.declared.player.Played.{Played}
+use Rattle.logs.specs.declared.player.Played.TheVariants as play
 
 -- ---- the reader
 

@@ -12,7 +12,7 @@ use Rattle.node.specs.declared.layout.Layout.{Layout}
 use Rattle.text.specs.Characters.{blank, newline}
 use Rattle.text.specs.Decimal.{most_digits, decimal}
 use Rattle.text.specs.Lay.{lay}
-use Rattle.log.specs.Log.{frame_place, event_size, most_events, count_of, events_at, form_of, log_number}
+use Rattle.logs.specs.Log.{frame_place, event_size, most_events, count_of, events_at, form_of, log_number}
 
 -- ---- the letters of the modes
 

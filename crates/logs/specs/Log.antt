@@ -6,10 +6,10 @@ use Rattle.fields.specs.Field.{field, put_field}
 use Rattle.forms.specs.Form.{WriteTold, done_write, refused_write, write_told}
 use Rattle.forms.specs.Frame.{frame_size}
 use Rattle.text.specs.Lay.{lay}
-use Rattle.log.specs.declared.file.LogRead.{LogRead}
-use Rattle.log.specs.declared.file.LogRead.TheVariants.{Taken, Refused}
-use Rattle.log.specs.declared.file.LogWritten.{LogWritten}
-use Rattle.log.specs.declared.file.LogWritten.TheVariants.{Wrote, Broken, NoRoom}
+use Rattle.logs.specs.declared.file.LogRead.{LogRead}
+use Rattle.logs.specs.declared.file.LogRead.TheVariants.{Taken, Refused}
+use Rattle.logs.specs.declared.file.LogWritten.{LogWritten}
+use Rattle.logs.specs.declared.file.LogWritten.TheVariants.{Wrote, Broken, NoRoom}
 
 -- ---- places, sizes and limits
 

@@ -4,12 +4,12 @@ use Rattle.forms.specs.Form.{WriteTold, done_write, refused_write}
 use Rattle.node.specs.Calls.{Outcome}
 use Rattle.node.specs.Layout.{header_size}
 use Rattle.text.specs.Puts.{Puts}
-use Rattle.log.specs.Listing.{line_of, line_room}
-use Rattle.log.specs.Log.{form_place, event_size, most_events, count_of, events_at}
-use Rattle.log.specs.declared.file.Log.{Log}
-use Rattle.log.specs.declared.player.Call.{Call}
-use Rattle.log.specs.declared.player.Played.{Played}
-use Rattle.log.specs.declared.player.Played.TheVariants.{Listed, NoRoom}
+use Rattle.logs.specs.Listing.{line_of, line_room}
+use Rattle.logs.specs.Log.{form_place, event_size, most_events, count_of, events_at}
+use Rattle.logs.specs.declared.file.Log.{Log}
+use Rattle.logs.specs.declared.player.Call.{Call}
+use Rattle.logs.specs.declared.player.Played.{Played}
+use Rattle.logs.specs.declared.player.Played.TheVariants.{Listed, NoRoom}
 
 abbrev pub played_by : Played → List ℕ → WriteTold
 played_by (Listed size) out = done_write size out

@@ -2,8 +2,8 @@
 -- propositions with no test in them. What it means that checks give a number is said in forms.
 use Rattle.std.specs.Prelude.{◌≡◌, List, [], ◌∷◌, ℕ, ◌+◌, ◌*◌, ◌/◌, ◌%◌, ◌≤◌, length}
 use Rattle.forms.specs.Table.{Check, ◌when◌, room_check}
-use Rattle.log.specs.Log.{form_place, event_size, most_events, least_form, most_form, least_offset, most_offset}
-use Rattle.log.specs.Log.{count_of, form_at, events_at, log_size}
+use Rattle.logs.specs.Log.{form_place, event_size, most_events, least_form, most_form, least_offset, most_offset}
+use Rattle.logs.specs.Log.{count_of, form_at, events_at, log_size}
 
 -- the layout of a log: offset of the form 12, 20 ≤ e ≤ 1,012, at most 4,096 events, and length e + 12 × count
 pub record Laid (b : List ℕ) : Type 0 where

@@ -1,6 +1,6 @@
 // The reader and the writer of a log.
 ghost use Rattle.std.specs.Prelude.{◌≡◌};
-ghost use Rattle.log.specs.Log.{told_by, log_told, written_by, log_written};
+ghost use Rattle.logs.specs.Log.{told_by, log_told, written_by, log_written};
 
 use fields::field::{put_word, word};
 use forms::frame::FRAME;

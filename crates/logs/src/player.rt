@@ -5,10 +5,10 @@ ghost use Rattle.node.specs.Answers.{outcome_by};
 ghost use Rattle.node.specs.Calls.{booted};
 ghost use Rattle.node.specs.Layout.{header_size, layout};
 ghost use Rattle.text.specs.Puts.{Puts};
-ghost use Rattle.log.specs.Listing.{column_room, line_room, listing_room, image_lent, out_lent};
-ghost use Rattle.log.specs.Listing.{column, letter_of_mode, line, event_call, event_lines, call_lines, played};
-ghost use Rattle.log.specs.Log.{form_of};
-ghost use Rattle.log.specs.Played.{played_by, TakenLog, CallShown, EventAsked, EventsAsked};
+ghost use Rattle.logs.specs.Listing.{column_room, line_room, listing_room, image_lent, out_lent};
+ghost use Rattle.logs.specs.Listing.{column, letter_of_mode, line, event_call, event_lines, call_lines, played};
+ghost use Rattle.logs.specs.Log.{form_of};
+ghost use Rattle.logs.specs.Played.{played_by, TakenLog, CallShown, EventAsked, EventsAsked};
 
 use crate::file::{EVENT_SIZE, FORM_PLACE, FRAME_PLACE, Log, LogRead, MOST_EVENTS, read_log};
 use fields::field::word;

@@ -2,6 +2,10 @@
 ghost use Rattle.std.specs.Prelude.{length};
 ghost use Rattle.pack.specs.File.{Within};
 
+use std::fs;
+use std::io::Read;
+use std::rt::Files;
+
 // What came of reading a file.
 #[derive(Drop)]
 pub enum Contents {
@@ -12,33 +16,29 @@ pub enum Contents {
 
 // Reads an open file until it ends or the buffer is full. Where a read fails the file is unreadable: a folder opens, and its first read
 // fails. A file that ends at once is empty, and not unreadable.
-fn read_open(file: i32, bytes: &mut [u8]) -> Contents
+fn read_open<R: Read>(file: &mut R, bytes: &mut [u8]) -> Contents
     ensures { Within result (length bytes.new) }
 {
     let mut size = 0;
     while size < bytes.len() {
-        let got = libc::read(file, &mut bytes[size..]);
-        if got < 0 {
-            return Contents::Unreadable;
+        match file.read(&mut bytes[size..]) {
+            Ok(0) => return Contents::Bytes(size),
+            Ok(more) => size += more,
+            Err(_) => return Contents::Unreadable,
         }
-        let more = io::count(got, &bytes[size..]);
-        if more == 0 {
-            return Contents::Bytes(size);
-        }
-        size += more;
     }
     Contents::Bytes(size)
 }
 
 // Reads the file of this name.
-pub fn read_file(name: &[u8], bytes: &mut [u8]) -> Contents
+pub fn read_file(rt: &impl Files, name: &[u8], bytes: &mut [u8]) -> Contents
     ensures { Within result (length bytes.new) }
 {
-    let file = os::open_read(name);
-    if file < 0 {
+    let Ok(path) = str::from_utf8(name) else {
         return Contents::Unreadable;
-    }
-    let contents = read_open(file, bytes);
-    libc::close(file);
-    contents
+    };
+    let Ok(mut file) = fs::open(rt, path) else {
+        return Contents::Unreadable;
+    };
+    read_open(&mut file, bytes)
 }

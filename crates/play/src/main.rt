@@ -2,17 +2,20 @@
 // longer one is noticed; all the rest is the proved player's.
 #![tactic(auto)]
 
-use log::file::LONGEST;
-use log::player::{LISTING_ROOM, Played, play};
+use logs::file::LONGEST;
+use logs::player::{LISTING_ROOM, Played, play};
+use std::io;
+use text::input::read_full;
 
-fn main() {
+fn main(rt: HostRuntime) -> io::Result<()> {
     let mut bytes = [0u8; LONGEST + 1];
-    let size = io::read_full(0, &mut bytes);
+    let size = read_full(&mut rt.reader(), &mut bytes);
     let mut listing = [0u8; LISTING_ROOM];
     if let Played::Listed(length) = play(&bytes[..size], &mut listing) {
         // a listing always fits the room that the player asks
         if length <= LISTING_ROOM {
-            io::write_all(1, &listing[..length]);
+            rt.write_all(&listing[..length])?;
         }
     }
+    Ok(())
 }

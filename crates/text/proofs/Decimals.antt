@@ -1,53 +1,83 @@
--- The digits that `io::decimal` puts are the number in decimal digits, and a number of 32 bits has at most ten.
+-- A number of 32 bits in decimal digits, as `digits` makes them from the last one on: the digits of a tenth of it and then its last digit;
+-- and it has at most ten.
 -- Assumes nothing.
-use mathlib.Core.Path.{◌≡◌, ap, ap₂, ◌∙◌}
-use mathlib.Core.List.{List, [], ◌∷◌, ◌++◌}
+use mathlib.Core.Path.{◌≡◌, refl, sym, ap, ◌∙◌}
+use mathlib.Core.Bool.{cond}
+use mathlib.Core.List.{List, [], ◌∷◌, ◌++◌, append_assoc}
 use Prim.Native.Nat.{ℕ, zero, suc, ◌+◌, ◌-◌, ◌*◌, ◌/◌, ◌%◌, ◌^◌, ◌≤◌, ◌<◌}
-use native.Mathlib.Nat.{pow-succ', pow-le-pow_right, one-le-pow}
-use native.Mathlib.Decide.{dec_le}
+use native.Mathlib.Nat.{pow-succ'}
+use native.Mathlib.Numerals.{add-one}
 use native.Mathlib.Omega.{arith}
+use lib.ListN.{length, set, drop, drop_of_length-le, length-set}
+use lib.Dec.{ltb}
 use borrow.Author.Tests.{lt-ltb, le-ltb}
-use Rattle.io.specs.Digits.{last_digits, IsDigitCount, hex_digit_ascii}
-use Rattle.text.specs.Decimal.{most_digits, decimal_in, decimal}
+use Rattle.std.proofs.lemmas.List.{append-nil, drop-set}
+use Rattle.text.specs.Decimal.{most_number, digit, decimal_in, decimal}
 
--- a digit below ten is its code
-glyph_ten : (n : ℕ) → hex_digit_ascii (n % 10) ≡ 48 + n % 10
-glyph_ten n =
-    let small : n % 10 < 10 = omega arith in
-    rw (lt-ltb (n % 10) 10 small)
-
-one_less : (k : ℕ) → suc k - 1 ≡ k
-one_less k = omega arith
-
--- with a counter of at least k - 1 the definition makes the k digits: n / 10 takes one digit less
-digits_in : (c k n : ℕ) → k ≤ suc c → IsDigitCount 10 1 n k → last_digits 10 k n ≡ decimal_in c n
+-- a counter that is enough for a number is enough when it is one more
+one_more : (c n : ℕ) → n < 10 ^ suc c → decimal_in c n ≡ decimal_in (suc c) n
 unfolding decimal_in
-digits_in c zero n room f = absurd (omega arith)
-digits_in zero (suc zero) n room f = ap (λ (d : ℕ). d ∷ []) (glyph_ten n)
-digits_in zero (suc (suc k)) n room f = absurd (omega arith)
-digits_in (suc c) (suc zero) n room f =
-    let small : n < 10 = f.1 in
+one_more zero n small =
+    let few : n < 10 = omega arith in
     let same : n % 10 ≡ n = omega arith in
-    rw (lt-ltb n 10 small) (ap (λ (d : ℕ). d ∷ []) (glyph_ten n ∙ ap (λ (m : ℕ). 48 + m) same))
-digits_in (suc c) (suc (suc k)) n room f =
-    let most : n < 10 * 10 ^ suc k = rw (pow-succ' 10 (suc k)) at f.1 in
-    let least : 10 * 10 ^ k ≤ n = rw (one_less (suc k), pow-succ' 10 k) at (f.2 (omega arith)) in
-    let big : 10 ≤ n = omega (arith, one-le-pow k 10 (omega arith)) in
-    let shorter : IsDigitCount 10 1 (n / 10) (suc k) = (omega arith, omega arith, λ _. rw (one_less k) (omega arith)) in
-    let front = digits_in c (suc k) (n / 10) (omega arith) shorter in
-    rw (le-ltb n 10 big) (ap₂ (λ (xs : List ℕ) (d : ℕ). xs ++ (d ∷ [])) front (glyph_ten n))
+    rw (lt-ltb n 10 few) (ap (λ (m : ℕ). digit m ∷ []) same)
+one_more (suc c) n small =
+    let most : n < 10 * 10 ^ suc c = rw (pow-succ' 10 (suc c)) at small in
+    ap (λ (xs : List ℕ). cond (ltb n 10) (digit n ∷ []) (xs ++ (digit (n % 10) ∷ []))) (one_more c (n / 10) (omega arith))
 
--- a counter of 19 is enough for the twenty digits that `io::decimal` has room for
-pub digits_decimal : (k n : ℕ) → k ≤ 20 → IsDigitCount 10 1 n k → last_digits 10 k n ≡ decimal n
-unfolding decimal
-digits_decimal k n room f = digits_in 19 k n room f
+-- the digits of a number from ten on: those of its tenth, and then its last one
+pub decimal_more : (n : ℕ) → 10 ≤ n → n ≤ most_number → decimal n ≡ decimal (n / 10) ++ (digit (n % 10) ∷ [])
+unfolding decimal decimal_in
+decimal_more n big few =
+    rw (le-ltb n 10 big) (ap (λ (xs : List ℕ). xs ++ (digit (n % 10) ∷ [])) (one_more 18 (n / 10) (omega arith)))
 
--- a number of 32 bits is below 10 ^ 10
-pub few_digits : (k n : ℕ) → n < 2 ^ 32 → IsDigitCount 10 1 n k → k ≤ most_digits
-few_digits k n small f = go (dec_le k most_digits)
-  where
-    go : Dec (k ≤ most_digits) → k ≤ most_digits
-    go (yes few) = few
-    go (no many) =
-        let more : 10 ≤ k - 1 = omega arith in
-        absurd (omega (arith, f.2 (omega arith), pow-le-pow_right {n = 10} (omega arith) more))
+-- a number below ten is its one digit
+pub decimal_one : (n : ℕ) → n < 10 → decimal n ≡ digit n ∷ []
+unfolding decimal decimal_in
+decimal_one n small = rw (lt-ltb n 10 small) refl
+
+-- ---- the digits as they come to stand at the end of a buffer
+
+-- where a turn begins: the digits of n are those of the rest, and then those that stand behind place k; the rest has at most k + 1
+pub record Made (n : ℕ) (text : List ℕ) (k rest : ℕ) : Type 0 where
+  pub inside : k < length text
+  pub few : rest ≤ most_number
+  pub room : rest < 10 ^ suc k
+  pub digits : decimal n ≡ decimal rest ++ drop (k + 1) text
+
+-- a turn puts the last digit of the rest at place k, which is not the first
+pub made_more : (n : ℕ) (text : List ℕ) (k rest : ℕ) → Made n text k rest → 10 ≤ rest →
+    (0 < k) × Made n (set text k (digit (rest % 10))) (k - 1) (rest / 10)
+made_more n text zero rest made big = absurd (omega (arith, made.room))
+made_more n text (suc k) rest made big =
+    let most : rest < 10 * 10 ^ suc k = rw (pow-succ' 10 (suc k)) at made.room in
+    let x : ℕ = digit (rest % 10) in
+    let behind : drop (suc k) (set text (suc k) x) ≡ x ∷ drop (suc k + 1) text = drop-set text (suc k) x made.inside in
+    let back : drop (k + 1) (set text (suc k) x) ≡ x ∷ drop (suc k + 1) text = rw add-one behind in
+    let one : suc k - 1 ≡ k = omega arith in
+    let long : length (set text (suc k) x) ≡ length text = length-set text (suc k) x in (
+      omega arith,
+      rw one (record {
+        inside = omega (arith, made.inside);
+        few = omega (arith, made.few);
+        room = omega arith;
+        digits =
+            made.digits
+            ∙ ap (λ (xs : List ℕ). xs ++ drop (suc k + 1) text) (decimal_more rest big made.few)
+            ∙ append_assoc (decimal (rest / 10)) (x ∷ []) (drop (suc k + 1) text)
+            ∙ ap (λ (xs : List ℕ). decimal (rest / 10) ++ xs) (sym back);
+      }),
+    )
+
+-- at the end the rest is the first digit
+pub made_all : (n : ℕ) (text : List ℕ) (k rest : ℕ) → Made n text k rest → rest < 10 →
+    drop k (set text k (digit rest)) ≡ decimal n
+made_all n text k rest made small =
+    drop-set text k (digit rest) made.inside
+    ∙ ap (λ (xs : List ℕ). xs ++ drop (k + 1) text) (sym (decimal_one rest small))
+    ∙ sym made.digits
+
+-- nothing is made at first
+pub made_none : (n : ℕ) (text : List ℕ) (k : ℕ) → length text ≡ k + 1 → n ≤ most_number → n < 10 ^ suc k → Made n text k n
+made_none n text k size few room =
+    record { inside = omega arith; few = few; room = room; digits = sym (ap (λ (xs : List ℕ). decimal n ++ xs) (drop_of_length-le text {i = k + 1} (omega arith)) ∙ append-nil (decimal n)) }

@@ -1,5 +1,5 @@
 // Numbers of 32 bits in decimal digits, as programs print and read them.
-ghost use Rattle.std.specs.Prelude.{◌≡◌, ◌+◌, ◌≤◌, length};
+ghost use Rattle.std.specs.Prelude.{◌≡◌, ◌+◌, ◌≤◌, length, drop};
 ghost use Rattle.text.specs.Decimal.{most_digits, decimal, decimal_of};
 ghost use Rattle.text.specs.Puts.{Puts};
 
@@ -11,18 +11,34 @@ const MOST_NUMBER: u64 = 4_294_967_295;
 // which has the most digits.
 pub const MOST_DIGITS: usize = 10;
 
-// Room that the kit asks for the digits of any number.
-const DIGITS_ASKED: usize = 20;
+// The number ten, as digits are counted.
+const TEN: u32 = 10;
+
+// Makes a number's decimal digits at the end of a buffer, the last one last, and gives the place of the first.
+fn digits(n: u32, text: &mut [u8; MOST_DIGITS]) -> usize
+    ensures place { result ≤ most_digits }
+    ensures made { drop result text.new ≡ decimal n }
+{
+    let mut k = MOST_DIGITS - 1;
+    let mut rest = n;
+    while TEN <= rest {
+        text[k] = b'0' + (rest % TEN) as u8;
+        k -= 1;
+        rest /= TEN;
+    }
+    text[k] = b'0' + rest as u8;
+    k
+}
 
 // Puts a number in decimal digits at place i, and gives the place behind it.
 pub fn put_decimal(out: &mut [u8], i: usize, n: u32) -> usize
     requires { i + most_digits ≤ length out.old }
     ensures { Puts out.old i (decimal n) most_digits out.new result }
 {
-    let mut text = [0u8; DIGITS_ASKED];
-    let k = io::decimal(n as u64, &mut text);
-    put_bytes(out, i, &text[..k]);
-    i + k
+    let mut text = [0u8; MOST_DIGITS];
+    let k = digits(n, &mut text);
+    put_bytes(out, i, &text[k..]);
+    i + (MOST_DIGITS - k)
 }
 
 // What a text says as a number of 32 bits.

@@ -1,5 +1,6 @@
-// What programs print and read: bytes laid over an output, and numbers in decimal digits.
+// What programs print and read: bytes laid over an output, numbers in decimal digits, and inputs read into a buffer.
 #![tactic(auto)]
 
 pub mod decimal;
+pub mod input;
 pub mod put;

@@ -9,6 +9,7 @@ use node::calls;
 use node::calls::Answer;
 use node::image::MOST_IMAGE;
 use rules::node::Node;
+use std::io;
 
 // Bytes of the image buffer.
 pub(crate) const IMAGE: usize = MOST_IMAGE + 48;
@@ -36,18 +37,23 @@ fn lend(step: Step, data: &[u8], image: &mut [u8], out: &mut [u8]) -> Answer
 }
 
 // Boots or delivers with a fresh output, and prints what came of it.
-pub(crate) fn run(step: Step, data: &[u8], image: &mut [u8; IMAGE]) -> bool {
+pub(crate) fn run(
+    rt: &impl Print,
+    step: Step,
+    data: &[u8],
+    image: &mut [u8; IMAGE],
+) -> io::Result<bool> {
     if step.size > IMAGE {
-        return false;
+        return Ok(false);
     }
     if step.room > OUT {
-        return false;
+        return Ok(false);
     }
     let old = *image;
     let mut out = [165u8; OUT];
     let answer = lend(step, data, image, &mut out);
-    show::answer(step, answer, &old, image, &out);
-    true
+    show::answer(rt, step, answer, &old, image, &out)?;
+    Ok(true)
 }
 
 // Lends only the first bytes of the image buffer, for conversions that have too little room.
@@ -59,23 +65,28 @@ fn lend_to_convert(step: Step, old: &[u8], image: &mut [u8]) -> Conversion
 }
 
 // Converts an old image, and prints what came of it.
-pub(crate) fn make_new(step: Step, data: &[u8], image: &mut [u8; IMAGE]) -> bool {
+pub(crate) fn make_new(
+    rt: &impl Print,
+    step: Step,
+    data: &[u8],
+    image: &mut [u8; IMAGE],
+) -> io::Result<bool> {
     if step.size > IMAGE {
-        return false;
+        return Ok(false);
     }
     let before = *image;
     let made = lend_to_convert(step, data, image);
-    show::conversion(step, made, &before, image);
-    true
+    show::conversion(rt, step, made, &before, image)?;
+    Ok(true)
 }
 
-pub(crate) fn read(step: Step, image: &[u8]) -> bool {
+pub(crate) fn read(rt: &impl Print, step: Step, image: &[u8]) -> io::Result<bool> {
     let size = step.size;
     if size > image.len() {
-        return false;
+        return Ok(false);
     }
     let reading = calls::read(&image[0..size]);
-    show::pair(reading.number, reading.clock);
-    show::end();
-    true
+    show::pair(rt, reading.number, reading.clock)?;
+    show::end(rt)?;
+    Ok(true)
 }

@@ -4,55 +4,57 @@ use crate::step::Step;
 use converter::calls::Conversion;
 use node::calls::Answer;
 use rules::record::RECORD;
+use std::io;
 
-fn number(n: u32) {
-    io::write_all(1, b" ");
-    io::print_decimal(1, n as u64);
+fn number(rt: &impl Print, n: u32) -> io::Result<()> {
+    print!(rt; " {n}")
 }
 
-pub(crate) fn pair(m: u32, n: u32) {
-    number(m);
-    number(n);
+pub(crate) fn pair(rt: &impl Print, m: u32, n: u32) -> io::Result<()> {
+    number(rt, m)?;
+    number(rt, n)
 }
 
-pub(crate) fn end() {
-    io::write_all(1, b"\n");
+pub(crate) fn end(rt: &impl Print) -> io::Result<()> {
+    rt.write_all(b"\n")
 }
 
-pub(crate) fn bad() {
-    io::write_all(1, b"bad call\n");
+pub(crate) fn bad(rt: &impl Print) -> io::Result<()> {
+    rt.write_all(b"bad call\n")
 }
 
 // The byte at place i of a buffer in hex, with a space before each word of four.
-fn byte(i: usize, x: u8) {
+fn byte(rt: &impl Print, i: usize, x: u8) -> io::Result<()> {
     if i % 4 == 0 {
-        io::write_all(1, b" ");
+        rt.write_all(b" ")?;
     }
-    io::print_hex(1, x as u64, 2);
+    print!(rt; "{x:02x}")
 }
 
 // The bytes of b from one place up to another.
-pub(crate) fn bytes(b: &[u8], from: usize, to: usize) {
+pub(crate) fn bytes(rt: &impl Print, b: &[u8], from: usize, to: usize) -> io::Result<()> {
     let mut i = from;
     while i < to {
         if i < b.len() {
-            byte(i, b[i]);
+            byte(rt, i, b[i])?;
         }
         i += 1;
     }
+    Ok(())
 }
 
-pub(crate) fn image(b: &[u8], to: usize) -> bool {
-    bytes(b, 0, to);
-    end();
-    true
+pub(crate) fn image(rt: &impl Print, b: &[u8], to: usize) -> io::Result<bool> {
+    bytes(rt, b, 0, to)?;
+    end(rt)?;
+    Ok(true)
 }
 
-fn part(b: &[u8], from: usize, to: usize) {
+fn part(rt: &impl Print, b: &[u8], from: usize, to: usize) -> io::Result<()> {
     if from < to {
-        io::write_all(1, b" |");
-        bytes(b, from, to);
+        rt.write_all(b" |")?;
+        bytes(rt, b, from, to)?;
     }
+    Ok(())
 }
 
 // Whether a buffer kept its bytes from one place up to another.
@@ -66,7 +68,7 @@ fn kept(old: &[u8], new: &[u8], from: usize, to: usize) -> bool {
     if new.len() < to {
         return false;
     }
-    check::same(&old[from..to], &new[from..to])
+    old[from..to] == new[from..to]
 }
 
 // Whether all is as it was but the bytes of the image that the line shows, which the model's line is held against, and those of
@@ -79,28 +81,41 @@ fn same(step: Step, old: &[u8], image: &[u8], out: &[u8]) -> bool {
 }
 
 // The end of a line: whether what it does not show stayed.
-fn end_with(stayed: bool) {
+fn end_with(rt: &impl Print, stayed: bool) -> io::Result<()> {
     if stayed {
-        io::write_all(1, b" | same\n");
+        rt.write_all(b" | same\n")
     } else {
-        io::write_all(1, b" | changed\n");
+        rt.write_all(b" | changed\n")
     }
 }
 
 // Number, bytes written, the bytes of the image that the step names, and whether the rest stayed.
-pub(crate) fn conversion(step: Step, made: Conversion, old: &[u8], image: &[u8]) {
-    pair(made.number, made.written);
-    part(image, 0, step.front);
-    end_with(kept(old, image, step.front, IMAGE));
+pub(crate) fn conversion(
+    rt: &impl Print,
+    step: Step,
+    made: Conversion,
+    old: &[u8],
+    image: &[u8],
+) -> io::Result<()> {
+    pair(rt, made.number, made.written)?;
+    part(rt, image, 0, step.front)?;
+    end_with(rt, kept(old, image, step.front, IMAGE))
 }
 
 // Number, records, rules fired, the bytes of the image that the step names, and whether the rest stayed.
-pub(crate) fn answer(step: Step, answer: Answer, old: &[u8], image: &[u8], out: &[u8]) {
-    pair(answer.number, answer.records);
-    number(answer.fired);
-    io::write_all(1, b" |");
-    bytes(out, 0, RECORD * (answer.records as usize));
-    part(image, 0, step.front);
-    part(image, step.from, step.to);
-    end_with(same(step, old, image, out));
+pub(crate) fn answer(
+    rt: &impl Print,
+    step: Step,
+    answer: Answer,
+    old: &[u8],
+    image: &[u8],
+    out: &[u8],
+) -> io::Result<()> {
+    pair(rt, answer.number, answer.records)?;
+    number(rt, answer.fired)?;
+    rt.write_all(b" |")?;
+    bytes(rt, out, 0, RECORD * (answer.records as usize))?;
+    part(rt, image, 0, step.front)?;
+    part(rt, image, step.from, step.to)?;
+    end_with(rt, same(step, old, image, out))
 }

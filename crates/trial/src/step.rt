@@ -1,13 +1,14 @@
 // A step: a head of 20 bytes, then its data, which is a text, an image, a form, a frame or an old image.
-ghost use Rattle.std.specs.Prelude.{◌≤◌, length};
+ghost use Rattle.std.specs.Prelude.{◌≤◌, IfOk, length};
 
 use crate::call::IMAGE;
 use crate::{call, show};
 use fields::field::{half, word};
+use std::io;
 
 // What the head says. A call is lent `size` bytes of the image and `room` of the output. Of the image its line shows the bytes
 // below `front` and those from `from` to `to`; of the output the first `written` bytes may change.
-#[derive(Drop)]
+#[derive(Clone, Copy)]
 pub struct Step {
     pub kind: u32,
     pub size: usize,
@@ -39,7 +40,7 @@ fn hand_in(data: &[u8], image: &mut [u8]) -> bool {
     if image.len() < data.len() {
         return false;
     }
-    bytes::copy(data, image);
+    image[..data.len()].copy_from_slice(data);
     true
 }
 
@@ -51,33 +52,36 @@ fn clear(image: &mut [u8]) -> bool {
 
 // Makes a step: a text written, an image handed in or shown, a read, a boot, a delivery, a conversion, the buffer cleared; false
 // where it is none of these.
-fn make(step: Step, data: &[u8], image: &mut [u8; IMAGE]) -> bool {
+fn make(rt: &impl Print, step: Step, data: &[u8], image: &mut [u8; IMAGE]) -> io::Result<bool> {
     let kind = step.kind;
     match kind {
-        1 => io::write_all(1, data),
-        2 => hand_in(data, image),
-        3 => show::image(image, step.front),
-        4 => call::read(step, image),
-        5 | 6 => call::run(step, data, image),
-        7 => call::make_new(step, data, image),
-        8 => clear(image),
-        _ => false,
+        1 => {
+            rt.write_all(data)?;
+            Ok(true)
+        }
+        2 => Ok(hand_in(data, image)),
+        3 => show::image(rt, image, step.front),
+        4 => call::read(rt, step, image),
+        5 | 6 => call::run(rt, step, data, image),
+        7 => call::make_new(rt, step, data, image),
+        8 => Ok(clear(image)),
+        _ => Ok(false),
     }
 }
 
 // Takes the first step; the bytes that it has, or 0 where it is none or cut short.
-pub(crate) fn take(b: &[u8], image: &mut [u8; IMAGE]) -> usize
-    ensures { result ≤ length b.now }
+pub(crate) fn take(rt: &impl Print, b: &[u8], image: &mut [u8; IMAGE]) -> io::Result<usize>
+    ensures { IfOk result (λ used. used ≤ length b.now) }
 {
     if b.len() < 20 {
-        return 0;
+        return Ok(0);
     }
     let end = 20 + half(b, 2) as usize;
     if b.len() < end {
-        return 0;
+        return Ok(0);
     }
-    if make(read(b), &b[20..end], image) {
-        return end;
+    if make(rt, read(b), &b[20..end], image)? {
+        return Ok(end);
     }
-    0
+    Ok(0)
 }

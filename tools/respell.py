@@ -70,8 +70,6 @@ STAY = {"not-nil"}
 TOKEN = re.compile(r"[^\s(){}.;,@\"«»\[\]⊢]+")
 USE = re.compile(r"^(?:ghost |pub )*use ([^\s;{]+?)\.?\{([^}]*)\}|^(?:ghost |pub )*use ([^\s;{]+)", re.M)
 WORD = re.compile(r"[A-Za-z_][\w']*(?:[-·][\w']+)*")
-# labels that Rattle makes
-MADE = re.compile(r"(returns|loop|invariant|decreases|Need|After|same|overflow_?\w*|enum|mul|add|sub|shl|shr|rem|div|cast)-.*|.*-requires(-\d+)?")
 
 
 def plain(name):
@@ -124,7 +122,7 @@ def main():
         text = bare(read(p), False)
         lent = {n for n, path in imports(text).items() if not is_own(path)}
         for token in TOKEN.findall(text):
-            if odd(token) and token not in lent and not MADE.fullmatch(token):
+            if odd(token) and token not in lent:
                 names[token] += 1
     turn = {n: OTHER.get(n, plain(n)) for n in names if n not in STAY and OTHER.get(n, plain(n)) != n}
     # what would meet another

@@ -198,11 +198,11 @@ module _ (s : Held) where
   kept (suc r) [] = refl
   kept (suc r) (row ∷ rows) = ap (λ (rs : List Row). row ∷ rs) (kept r rows)
 
-  same-serials : (r : ℕ) (rows : List Row) → serials_in (go_on s r rows) ≡ serials_in rows
+  same_serials : (r : ℕ) (rows : List Row) → serials_in (go_on s r rows) ≡ serials_in rows
   unfolding go_on
-  same-serials r [] = refl
-  same-serials zero (row ∷ rows) = ap (λ (l : List ℕ). row.serial ∷ l) (same-serials zero rows)
-  same-serials (suc r) (row ∷ rows) = ap (λ (l : List ℕ). row.serial ∷ l) (same-serials r rows)
+  same_serials r [] = refl
+  same_serials zero (row ∷ rows) = ap (λ (l : List ℕ). row.serial ∷ l) (same_serials zero rows)
+  same_serials (suc r) (row ∷ rows) = ap (λ (l : List ℕ). row.serial ∷ l) (same_serials r rows)
 
   -- every row from there on holds the tick as this set does
   module _ (w kind t : ℕ) where
@@ -292,7 +292,7 @@ module _ (w kind t : ℕ) where
       record {
         way = λ yes. go_on (rows_with yes) r rows;
         begun = λ yes. kept (rows_with yes) r rows;
-        same = λ yes. same-serials (rows_with yes) r rows;
+        same = λ yes. same_serials (rows_with yes) r rows;
         sound = sound;
         told = told;
       }

@@ -105,9 +105,9 @@ module _ (w bound : ℕ) (P : Held → Type 0) (keeps : (s : Held) (t : ℕ) →
   run_keeps s (suc c) zero p h = keeps s 0 p h
   run_keeps s (suc c) (suc j) p h = run_keeps (insert w s (suc j)) c j (omega arith) (keeps s (suc j) p h)
 
-  add-keeps : (kind : ℕ) (s : Held) (j : ℕ) → j < bound → P s → P (add w kind s j)
+  add_keeps : (kind : ℕ) (s : Held) (j : ℕ) → j < bound → P s → P (add w kind s j)
   unfolding add added
-  add-keeps kind s j p h = run_keeps s (many_added kind) j p h
+  add_keeps kind s j p h = run_keeps s (many_added kind) j p h
 
   module _ (serial kind j : ℕ) (small : j < bound) where
     -- a frame keeps it, of both sets of its row and of every row
@@ -116,7 +116,7 @@ module _ (w bound : ℕ) (P : Held → Type 0) (keeps : (s : Held) (t : ℕ) →
     row_keeps row h = (after ECHO h.0, after INIT h.1)
       where
         after : (k : ℕ) → P (set_of k row) → P (set_of k (credit_of w serial kind j row))
-        after k = set_credited w serial kind j row k (λ a b. P b → P a) (λ s g. g) (λ s g. add-keeps kind s j small g)
+        after k = set_credited w serial kind j row k (λ a b. P b → P a) (λ s g. g) (λ s g. add_keeps kind s j small g)
 
     pub credit_keeps : (rows : List Row) → Every (Both P) rows → Every (Both P) (credit w serial kind j rows)
     credit_keeps = every_credited w serial kind j (Both P) row_keeps

@@ -68,10 +68,10 @@ all_less w s (t ∷ ts) u wide n =
       insert_less w s t u wide (λ e. n (Memᴰ.head e)),
     )
 
-add-less :
+add_less :
     (w kind : ℕ) (s : Held) (j u : ℕ) → 0 < w → (Memᴰ u (added kind j) → ⊥) → holds w (add w kind s j) u ≤ holds w s u
 unfolding add
-add-less w kind s j u wide n = all_less w s (added kind j) u wide n
+add_less w kind s j u wide n = all_less w s (added kind j) u wide n
 
 -- ---- rows
 
@@ -85,7 +85,7 @@ holders_less w serial kind j k u (row ∷ rows) wide n =
     omega (
       arith,
       holders_less w serial kind j k u rows wide n,
-      set_credited w serial kind j row k (λ (a b : Held). holds w a u ≤ holds w b u) (λ s. le s) (λ s. add-less w kind s j u wide n),
+      set_credited w serial kind j row k (λ (a b : Held). holds w a u ≤ holds w b u) (λ s. le s) (λ s. add_less w kind s j u wide n),
     )
   where
     le : (s : Held) → holds w s u ≤ holds w s u

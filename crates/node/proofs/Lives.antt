@@ -56,9 +56,9 @@ module _ (L : Layout) (last : ℕ) (a b : List ℕ) (h : Pair L last a b) where
   unfolding deliver_number number_before_a_frame
   same_number port frame n = rw (h.first, h.second, count_order port serials)
 
-  same-reading : reading L last a ≡ reading L last b
+  same_reading : reading L last a ≡ reading L last b
   unfolding state_of
-  same-reading = reading_same L L last a b h.first h.second h.same.node
+  same_reading = reading_same L L last a b h.first h.second h.same.node
 
 module _ (L : Layout) (last : ℕ) (a b : List ℕ) where
   -- the same clock and mode, and the same evidence under each serial
@@ -177,7 +177,7 @@ module _ (L : Layout) (last : ℕ) (works : Works L) (small : last < tick_count)
   called_alike a b (Deliver port frame out) (paired h) =
       let m = deliver_met a b port frame out h in
       (met_seen L last (deliver_outcome L last a port frame out) (deliver_outcome L last b port frame out) m, m.image)
-  called_alike a b Read (paired h) = (rw (same-reading L last a b h) (same_seen L last a b (paired h) (reading L last b)), paired h)
+  called_alike a b Read (paired h) = (rw (same_reading L last a b h) (same_seen L last a b (paired h) (reading L last b)), paired h)
 
   observed_alike : (a b : List ℕ) (calls : List Call) → Alike L last a b → observed L last a calls ≡ observed L last b calls
   unfolding observed

@@ -72,7 +72,7 @@ use Rattle.node.proofs.Outcomes.{read_done, read_refused}
 use Rattle.node.proofs.SoundImages.{in_service, boot_sound}
 use Rattle.node.proofs.SoundImages.{delivery_sound, delivery_ordered, delivery_all, delivery_below}
 use Rattle.node.proofs.Taken.{form_refuses, boot_taken}
-use Rattle.node.proofs.Traffic.{delivery_back, flag_of_the_answer, sends_known, same-image, same-others}
+use Rattle.node.proofs.Traffic.{delivery_back, flag_of_the_answer, sends_known, same_image, same_others}
 use Rattle.node.proofs.Traffic.{asks_fewer, calls_modest, life_sent, bytes_booted}
 
 -- ---- Boot
@@ -407,8 +407,8 @@ pub flag_decides_the_answer_alone :
     → ((delivers image port frame out).image ≡ (delivers image port other out).image)
     × (others image port frame out ≡ others image port other out)
 flag_decides_the_answer_alone image port frame other out ok ok' kind tick = (
-  rw (done image port frame out ok, done image port other out ok') (same-image layout last_tick image port frame other kind tick),
-  same-others window last_tick (state_of layout image) port (frame_at frame 0) (frame_at other 0) kind tick,
+  rw (done image port frame out ok, done image port other out ok') (same_image layout last_tick image port frame other kind tick),
+  same_others window last_tick (state_of layout image) port (frame_at frame 0) (frame_at other 0) kind tick,
 )
 
 -- ---- Read

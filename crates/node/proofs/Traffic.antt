@@ -121,17 +121,17 @@ module _
       in_order = delivery_ordered L last works small image port frame (length out) bytes ok
 
 -- neither evidence nor rules look at the flag: two frames with the same kind and tick leave the same image
-pub same-image : (L : Layout) (last : ℕ) (image : List ℕ) (port : ℕ) (frame other : List ℕ) →
+pub same_image : (L : Layout) (last : ℕ) (image : List ℕ) (port : ℕ) (frame other : List ℕ) →
     (frame_at frame 0).kind ≡ (frame_at other 0).kind → (frame_at frame 0).tick ≡ (frame_at other 0).tick →
     image_after L image (delivery_of L last image port frame) ≡ image_after L image (delivery_of L last image port other)
 unfolding image_after delivery_of delivered settled
-same-image L last image port frame other kind tick = rw (kind, tick)
+same_image L last image port frame other kind tick = rw (kind, tick)
 
 -- and the rules send the same
-pub same-others : (w last : ℕ) (s : State) (port : ℕ) (frame other : Frame) → frame.kind ≡ other.kind → frame.tick ≡ other.tick →
+pub same_others : (w last : ℕ) (s : State) (port : ℕ) (frame other : Frame) → frame.kind ≡ other.kind → frame.tick ≡ other.tick →
     (settled w last s port frame).records ≡ (settled w last s port other).records
 unfolding settled
-same-others w last s port frame other kind tick =
+same_others w last s port frame other kind tick =
     ap₂ (λ (k t : ℕ). (settle w last (credit w port k t s.rows) most_firings s.node).records) kind tick
 
 -- ---- frames that ask, counted

@@ -5,7 +5,7 @@
 mod file;
 mod line;
 
-ghost use Rattle.std.specs.Prelude.{◌≤◌, IfOk, length};
+ghost use Rattle.std.specs.Prelude.{◌≡◌, ◌≤◌, IfOk, OnErr, length};
 ghost use Rattle.pack.specs.File.{Within};
 
 use file::{Contents, read_file};
@@ -64,7 +64,8 @@ fn read_named<R: Env + Files + Print>(
     place: usize,
     bytes: &mut [u8],
 ) -> io::Result<Contents>
-    ensures { IfOk result (λ contents. Within contents (length bytes.new)) }
+    ensures within { IfOk result (λ contents. Within contents (length bytes.new)) }
+    ensures err { OnErr result (length bytes.new ≡ length bytes.old) }
 {
     let mut name = [0u8; ARGUMENT_ROOM];
     let size = argument(rt, place, &mut name);

@@ -157,8 +157,8 @@ pub record Same (p q : Node) : Type 0 where
   pub faults : p.faults ≡ q.faults
   pub own : p.own ≡ q.own
 
-pub same-trans : {p q r : Node} → Same p q → Same q r → Same p r
-same-trans h k = record { lines = h.lines ∙ k.lines; faults = h.faults ∙ k.faults; own = h.own ∙ k.own }
+pub same_trans : {p q r : Node} → Same p q → Same q r → Same p r
+same_trans h k = record { lines = h.lines ∙ k.lines; faults = h.faults ∙ k.faults; own = h.own ∙ k.own }
 
 pub fired_same : (p : Node) (rule : Rule) → Same (fired p rule) p
 unfolding fired

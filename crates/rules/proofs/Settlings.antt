@@ -16,7 +16,7 @@ use Rattle.rules.specs.Rules.{Settled, still, first_rule, at_rest, fired, said, 
 use Rattle.rules.specs.Steps.{rows_from, CanFire, SettledAs}
 use Rattle.rules.specs.declared.node.Node.{Node}
 use Rattle.rules.specs.declared.node.Rule.{Rule}
-use Rattle.rules.proofs.Firing.{can_fire, rest_true, said_few, Same, same-trans, fired_same, settle_none, settle_rest, settle_fires}
+use Rattle.rules.proofs.Firing.{can_fire, rest_true, said_few, Same, same_trans, fired_same, settle_none, settle_rest, settle_fires}
 use Rattle.rules.proofs.Records.{length_put_records, put_records_none, put_records_behind}
 
 -- at most c firings of p over these rows
@@ -87,7 +87,7 @@ module _
           firings = omega (arith, ap (λ (s : Settled). s.firings) down, h.firings);
           few = omega (arith, said_few p first);
           whole = omega (arith, h.whole);
-          same = same-trans (fired_same p first) h.same;
+          same = same_trans (fired_same p first) h.same;
           space = length_put_records out (record_size * n) (said p first) ∙ h.space;
           first = rw e at then;
         })

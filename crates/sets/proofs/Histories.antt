@@ -296,9 +296,9 @@ run_late w s (suc c) (suc i) wide p =
     ap (λ (r : Held). insert_all w r (run c i)) (insert_late w s (suc i) p wide) ∙ run_late w s c i wide (omega arith)
 
 -- a frame below the window changes nothing
-pub add-late : (w kind : ℕ) (s : Held) (j : ℕ) → 0 < w → j + w ≤ s.top → add w kind s j ≡ s
+pub add_late : (w kind : ℕ) (s : Held) (j : ℕ) → 0 < w → j + w ≤ s.top → add w kind s j ≡ s
 unfolding add added
-add-late w kind s j wide p = run_late w s (many_added kind) j wide p
+add_late w kind s j wide p = run_late w s (many_added kind) j wide p
 
 -- a history behind a history
 pub heard_append : (w kind : ℕ) (s : Held) (frames others : List Sent) →

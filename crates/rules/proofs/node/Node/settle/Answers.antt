@@ -15,7 +15,7 @@ use Rattle.rules.specs.Rules.{Settled, still, first_rule, at_rest, fired, said, 
 use Rattle.rules.specs.Steps.{rows_from, CanFire, SettledAs}
 use Rattle.rules.specs.declared.node.Node.{Node}
 use Rattle.rules.specs.declared.node.Rule.{Rule}
-use Rattle.rules.proofs.Firing.{can_fire, rest_true, said_few, Same, same-trans, fired_same, settle_none, settle_rest, settle_fires}
+use Rattle.rules.proofs.Firing.{can_fire, rest_true, said_few, Same, same_trans, fired_same, settle_none, settle_rest, settle_fires}
 use Rattle.rules.proofs.Records.{length_put_records, put_records_none, put_records_behind}
 use Rattle.rules.proofs.Settlings.{from, Settling, ended, fires}
 use Rattle.rules.proofs.node.Node.settle.Goals as goal
@@ -68,7 +68,7 @@ pub rule-rule-requires : goal.rule-rule-requires
 rule-rule-requires c =
     let stays : let a = c.args in let l = c.loop-fired in Same (fired l.node l.rule) a.self =
     let l = c.loop-fired in
-    same-trans (fired_same l.node l.rule) l.invariant.same in
+    same_trans (fired_same l.node l.rule) l.invariant.same in
     rw c.fire-node.ensures (omega (arith, stays))
 
 pub loop-fired-preserved : goal.loop-fired-preserved
@@ -77,7 +77,7 @@ loop-fired-preserved c =
     omega arith in
     let stays : let a = c.args in let l = c.loop-fired in Same (fired l.node l.rule) a.self =
     let l = c.loop-fired in
-    same-trans (fired_same l.node l.rule) l.invariant.same in
+    same_trans (fired_same l.node l.rule) l.invariant.same in
     let next : let fires = c in let a = fires.args in let l = fires.loop-fired in c.rule-rule.result ≡ first_rule window last_tick (rows_from a.self a.b.now a.i) (fired l.node l.rule) =
     let fires = c in
     let a = fires.args in

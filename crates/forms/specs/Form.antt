@@ -108,7 +108,9 @@ write_told number size before after =
 -- the form of a roster, written over the front of the output; bytes behind it stay
 unfoldable pub put_form : List ℕ → ℕ → ℕ → List ℕ → List ℕ
 put_form out f own serials =
-    put_words 4 (put_field 4 (put_field 2 (put_field 1 (put_field 1 out 0 (length serials)) 1 f) 2 serials_place) 4 own) serials_place serials
+    put_words 4
+    (put_field 4 (put_field 2 (put_field 1 (put_field 1 out 0 (length serials)) 1 f) 2 serials_place) 4 own)
+    serials_place serials
 
 unfoldable pub form_written : ℕ → ℕ → List ℕ → List ℕ → WriteTold
 form_written f own serials out = write_told (roster_number f own serials) (form_size (length serials)) out (put_form out f own serials)

@@ -107,7 +107,10 @@ log_size form events = form_place + length form + length events
 
 -- the three numbers in front of the form
 abbrev pub put_head : List ℕ → List ℕ → List ℕ → List ℕ
-put_head out form events = put_field 4 (put_field 4 (put_field 4 out 0 (length events / event_size)) 4 form_place) 8 (form_place + length form)
+put_head out form events =
+    put_field 4
+    (put_field 4 (put_field 4 out 0 (length events / event_size)) 4 form_place)
+    8 (form_place + length form)
 
 unfoldable pub put_log : List ℕ → List ℕ → List ℕ → List ℕ
 put_log out form events = lay (lay (put_head out form events) form_place form) (form_place + length form) events

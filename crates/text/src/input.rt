@@ -4,8 +4,8 @@ ghost use Rattle.std.specs.Io.KnownBytes.{Consumes};
 
 use std::io::Read;
 
-// Reads until the buffer is full, the input ends or a read fails, and gives how many bytes stand at the front of the buffer, which are those
-// that the input began with: what can't be read counts as the end.
+// Reads until the buffer is full, the input ends or a read fails, and gives how many bytes stand at the front of the buffer, which are
+// those that the input began with: what can't be read counts as the end.
 pub fn read_full<R: Read>(from: &mut R, bytes: &mut [u8]) -> usize
     ensures within { result ≤ length bytes.new }
     ensures bytes { Consumes (R.remaining from.old) (R.remaining from.new) (take result bytes.new) }

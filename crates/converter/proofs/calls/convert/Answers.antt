@@ -12,6 +12,7 @@ use Rattle.node.specs.Layout.{layout, old_layout, header_size}
 use Rattle.node.proofs.Sound.{SoundBytes, sound_bytes, rows_inside, rows_limits}
 use Rattle.converter.specs.Convert.{conversion_number, converted}
 use Rattle.converter.proofs.Conversion.{Ready, number_ready}
+use Rattle.converter.proofs.calls.convert.Goals.{Else-number-ne0}
 use Rattle.converter.proofs.calls.convert.Goals as goal
 
 pub returns-then-number-ne0 : goal.returns-then-number-ne0
@@ -22,106 +23,68 @@ returns-then-number-ne0 c =
     let refused : c.convert_number-number.result ≡ 0 → ⊥ = c.if-number-ne0.true in
     rw (ne_eqb (conversion_number old_layout layout last_tick a.old.now (length a.image.now)) 0 (λ e. refused (number ∙ e)), number)
 
-pub bounds-old-0 : goal.bounds-old-0
-bounds-old-0 c =
-    let ready : let a = c.args in Ready old_layout layout last_tick a.old.now a.image.now =
+-- past the test the old image is sound, and there is room
+ready : (c : Else-number-ne0) →
     let a = c.args in
-    number_ready old_layout layout last_tick a.old.now a.image.now (sym c.convert_number-number.ensures ∙ c.if-number-ne0.false) in
-    let facts : SoundBytes old_layout last_tick c.args.old.now =
-    sound_bytes old_layout last_tick c.args.old.now (ready).sound in
-    omega (arith, (facts).header)
+    Ready old_layout layout last_tick a.old.now a.image.now
+ready c =
+    let a = c.args in
+    number_ready old_layout layout last_tick a.old.now a.image.now (sym c.convert_number-number.ensures ∙ c.if-number-ne0.false)
+
+facts : (c : Else-number-ne0) → SoundBytes old_layout last_tick c.args.old.now
+facts c = sound_bytes old_layout last_tick c.args.old.now (ready c).sound
+
+-- n is at most 32
+few : (c : Else-number-ne0) → get_or c.args.old.now 0 0 ≤ most_lines
+unfolding state_of node_of
+few c =
+    let old = c.args.old.now in
+    omega (arith, rows_limits _ _ old_layout.masks (get_or old 0 0) old header_size (facts c).node.roster)
+
+pub bounds-old-0 : goal.bounds-old-0
+bounds-old-0 c = omega (arith, (facts (goal.at.bounds-old-0 c).Else-number-ne0).header)
 
 pub overflow_cast-n : goal.overflow_cast-n
 overflow_cast-n c = omega (arith, c.shared_slice_known-2-1.given 0)
 
 pub read_node-requires : goal.read_node-requires
-read_node-requires c =
-    let ready : let a = c.args in Ready old_layout layout last_tick a.old.now a.image.now =
-    let a = c.args in
-    number_ready old_layout layout last_tick a.old.now a.image.now (sym c.convert_number-number.ensures ∙ c.if-number-ne0.false) in
-    let facts : SoundBytes old_layout last_tick c.args.old.now =
-    sound_bytes old_layout last_tick c.args.old.now (ready).sound in
-    (facts).header
+read_node-requires c = (facts (goal.at.read_node-requires c).Else-number-ne0).header
 
 pub put_node-requires : goal.put_node-requires
 unfolding node_of state_of
 put_node-requires c =
-    let ready : let a = c.args in Ready old_layout layout last_tick a.old.now a.image.now =
-    let a = c.args in
-    number_ready old_layout layout last_tick a.old.now a.image.now (sym c.convert_number-number.ensures ∙ c.if-number-ne0.false) in
-    let facts : SoundBytes old_layout last_tick c.args.old.now =
-    sound_bytes old_layout last_tick c.args.old.now (ready).sound in
-    let few : get_or c.args.old.now 0 0 ≤ most_lines =
-    let old = c.args.old.now in
-    omega (arith, rows_limits _ _ old_layout.masks (get_or old 0 0) old header_size (facts).node.roster) in
-    let there = c in
+    let there = (goal.at.put_node-requires c).Else-number-ne0 in
     let bytes = c.shared_slice_known-2-1.given in
     rw c.read_node.ensures
     (record {
-      inside = omega (arith, (ready).room);
-      lines = few;
+      inside = omega (arith, (ready there).room);
+      lines = few there;
       faults = (bytes 1).fits;
       mode = (bytes 2).fits;
     })
 
 pub widen_rows-requires : goal.widen_rows-requires
 widen_rows-requires c =
-    let ready : let a = c.args in Ready old_layout layout last_tick a.old.now a.image.now =
-    let a = c.args in
-    number_ready old_layout layout last_tick a.old.now a.image.now (sym c.convert_number-number.ensures ∙ c.if-number-ne0.false) in
-    let facts : SoundBytes old_layout last_tick c.args.old.now =
-    sound_bytes old_layout last_tick c.args.old.now (ready).sound in
-    let there = c in
-    let h = facts in (
-      omega (arith, (ready).room, c.put_node.auto.b),
-      rows_inside old_layout there.args.old.now h.fixed h.stated,
+    let there = (goal.at.widen_rows-requires c).Else-number-ne0 in
+    let h = facts there in (
+      omega (arith, (ready there).room, c.put_node.auto.b),
+      rows_inside old_layout c.args.old.now h.fixed h.stated,
     )
 
 pub overflow_mul-result : goal.overflow_mul-result
-unfolding state_of node_of
-overflow_mul-result c =
-    let ready : let a = c.args in Ready old_layout layout last_tick a.old.now a.image.now =
-    let a = c.args in
-    number_ready old_layout layout last_tick a.old.now a.image.now (sym c.convert_number-number.ensures ∙ c.if-number-ne0.false) in
-    let facts : SoundBytes old_layout last_tick c.args.old.now =
-    sound_bytes old_layout last_tick c.args.old.now (ready).sound in
-    let few : get_or c.args.old.now 0 0 ≤ most_lines =
-    let old = c.args.old.now in
-    omega (arith, rows_limits _ _ old_layout.masks (get_or old 0 0) old header_size (facts).node.roster) in
-    omega (arith, few)
+overflow_mul-result c = omega (arith, few (goal.at.overflow_mul-result c).Else-number-ne0)
 
 pub overflow_add-result : goal.overflow_add-result
-unfolding state_of node_of
-overflow_add-result c =
-    let ready : let a = c.args in Ready old_layout layout last_tick a.old.now a.image.now =
-    let a = c.args in
-    number_ready old_layout layout last_tick a.old.now a.image.now (sym c.convert_number-number.ensures ∙ c.if-number-ne0.false) in
-    let facts : SoundBytes old_layout last_tick c.args.old.now =
-    sound_bytes old_layout last_tick c.args.old.now (ready).sound in
-    let few : get_or c.args.old.now 0 0 ≤ most_lines =
-    let old = c.args.old.now in
-    omega (arith, rows_limits _ _ old_layout.masks (get_or old 0 0) old header_size (facts).node.roster) in
-    omega (arith, few)
+overflow_add-result c = omega (arith, few (goal.at.overflow_add-result c).Else-number-ne0)
 
 pub overflow_cast-result : goal.overflow_cast-result
-unfolding state_of node_of
-overflow_cast-result c =
-    let ready : let a = c.args in Ready old_layout layout last_tick a.old.now a.image.now =
-    let a = c.args in
-    number_ready old_layout layout last_tick a.old.now a.image.now (sym c.convert_number-number.ensures ∙ c.if-number-ne0.false) in
-    let facts : SoundBytes old_layout last_tick c.args.old.now =
-    sound_bytes old_layout last_tick c.args.old.now (ready).sound in
-    let few : get_or c.args.old.now 0 0 ≤ most_lines =
-    let old = c.args.old.now in
-    omega (arith, rows_limits _ _ old_layout.masks (get_or old 0 0) old header_size (facts).node.roster) in
-    omega (arith, few)
+overflow_cast-result c = omega (arith, few (goal.at.overflow_cast-result c).Else-number-ne0)
 
 pub returns : goal.returns
 unfolding converted put_state state_of node_of
 returns c =
-    let there = c in
-    let a = there.args in
-    let number = sym there.convert_number-number.ensures ∙ there.if-number-ne0.false in
+    let a = c.args in
+    let number = sym c.convert_number-number.ensures ∙ c.if-number-ne0.false in
     rw (
       eq-eqb (conversion_number old_layout layout last_tick a.old.now (length a.image.now)) 0 number,
       c.widen_rows.ensures,

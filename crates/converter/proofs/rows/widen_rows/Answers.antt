@@ -8,18 +8,8 @@ use Rattle.sets.specs.Sets.{mask_bytes}
 use Rattle.evidence.specs.Rows.{row_bytes, row_size, row_at, rows_at, put_row_bytes, put_rows}
 use Rattle.evidence.proofs.Layouts.{rows_down}
 use Rattle.node.specs.Layout.{old_layout, header_size}
+use Rattle.converter.proofs.rows.widen_rows.Invariants.{masks, oldRow, rest}
 use Rattle.converter.proofs.rows.widen_rows.Goals as goal
-
--- bytes of an old mask and of an old row
-abbrev masks : ℕ
-masks = old_layout.masks
-
-abbrev oldRow : ℕ
-oldRow = row_size masks
-
--- the rows from row k on, in their places
-abbrev rest : List ℕ → List ℕ → ℕ → ℕ → List ℕ
-rest b old n k = put_rows mask_bytes b (header_size + k * row_bytes) (rows_at masks (n - k) old (header_size + k * oldRow))
 
 -- row k stored: its serial, and its two sets
 abbrev stored : List ℕ → List ℕ → ℕ → List ℕ
@@ -45,19 +35,17 @@ loop-k-init c = (omega arith, omega arith, simp sub-zero)
 pub loop-k-preserved : goal.loop-k-preserved
 unfolding row_at
 loop-k-preserved c =
-    let row = c in
-    let turn = row in
-    let l = turn.loop-k in
-    let a = turn.args in (
+    let l = c.loop-k in
+    let a = c.args in (
       omega arith,
       omega arith,
       rw (
-        row.put_row.ensures,
-        row.word.ensures,
-        row.read_old_set-init.ensures,
-        row.read_old_set-echo.ensures,
+        c.put_row.ensures,
+        c.word.ensures,
+        c.read_old_set-init.ensures,
+        c.read_old_set-echo.ensures,
       )
-          (store_step l.b a.old.now a.n l.k turn.loop-k-test.true ∙ l.invariant.2),
+          (store_step l.b a.old.now a.n l.k c.loop-k-test.true ∙ l.invariant.2),
     )
 
 pub returns : goal.returns

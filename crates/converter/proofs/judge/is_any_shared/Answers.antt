@@ -19,11 +19,9 @@ use Rattle.evidence.proofs.Greatest.{best_held, best_most, greatest_most, greate
 use Rattle.rules.specs.Describe.{window}
 use Rattle.node.specs.Layout.{old_layout}
 use Rattle.converter.specs.Old.{old_rows}
+use Rattle.converter.proofs.judge.is_any_shared.Invariants.{Part}
+use Rattle.converter.proofs.judge.is_any_shared.Goals.{After-find_shared-best}
 use Rattle.converter.proofs.judge.is_any_shared.Goals as goal
-
--- and none is held by more of those left
-abbrev Part : ℕ → List Row → List Row → Type 0
-Part kind all rest = (t : ℕ) → holders window kind t rest ≤ holders window kind t all
 
 -- ---- one set
 module _ (kind m low : ℕ) (rest : List Row) (s : Held) where
@@ -55,49 +53,50 @@ loop-left-init c = (λ t l p. omega arith, omega arith, λ t. omega arith)
 
 pub find_shared-best-requires : goal.find_shared-best-requires
 find_shared-best-requires c =
-    let start = c in
     let l = c.loop-left in
-    let old = start.args.old.now in
-    let bytes : Bytes old = λ k. (start.shared_slice_known-1.given k).fits in (
+    let old = c.args.old.now in
+    let bytes : Bytes old = λ k. (c.shared_slice_known-1.given k).fits in (
       omega arith,
       one_word old (l.at + c.old_place-place.result) c.read_old_set.result bytes c.read_old_set.ensures,
     )
 
-pub returns-then-best-gt0 : goal.returns-then-best-gt0
-returns-then-best-gt0 c =
-    let here : let a = c.args in let l = c.loop-left in c.find_shared-best.result ≡ best_of window a.kind a.m a.low (rows_at old_layout.masks l.left a.old.now l.at) (set_at old_layout.masks a.old.now (l.at + place_of_set old_layout.masks a.kind)) =
+-- the search goes over the set of the row in hand
+here : (c : After-find_shared-best) →
+    let a = c.args in
+    let l = c.loop-left in
+    c.find_shared-best.result
+    ≡ best_of window a.kind a.m a.low (rows_at old_layout.masks l.left a.old.now l.at)
+    (set_at old_layout.masks a.old.now (l.at + place_of_set old_layout.masks a.kind))
+here c =
     let a = c.args in
     let at = c.loop-left.at in
     let place = c.old_place-place.ensures.0 in
     let set = c.read_old_set.ensures ∙ ap (λ (p : ℕ). set_at old_layout.masks a.old.now (at + p)) place in
-    rw (← set) c.find_shared-best.ensures in
-    let start = c in
-    let a = start.args in
+    rw (← set) c.find_shared-best.ensures
+
+pub returns-then-best-gt0 : goal.returns-then-best-gt0
+returns-then-best-gt0 c =
+    let found = (goal.at.returns-then-best-gt0 c).After-find_shared-best in
+    let a = c.args in
     let all = old_rows a.n a.old.now in
     let l = c.loop-left in
     let rest = rows_at old_layout.masks l.left a.old.now l.at in
     let s = set_at old_layout.masks a.old.now (l.at + place_of_set old_layout.masks a.kind) in
     sym
     (lt-ltb 0 (greatest window a.kind a.m a.low all)
-    (some-shared a.kind a.m a.low rest s all l.invariant.2 start.requires.1 c.find_shared-best.result
-    (sym (here)) (omega (arith, c.if-best-gt0.true))))
+    (some-shared a.kind a.m a.low rest s all l.invariant.2 c.requires.1 c.find_shared-best.result
+    (sym (here found)) (omega (arith, c.if-best-gt0.true))))
 
 pub loop-left-preserved : goal.loop-left-preserved
 loop-left-preserved c =
-    let here : let a = c.args in let l = c.loop-left in c.find_shared-best.result ≡ best_of window a.kind a.m a.low (rows_at old_layout.masks l.left a.old.now l.at) (set_at old_layout.masks a.old.now (l.at + place_of_set old_layout.masks a.kind)) =
+    let found = (goal.at.loop-left-preserved c).After-find_shared-best in
     let a = c.args in
-    let at = c.loop-left.at in
-    let place = c.old_place-place.ensures.0 in
-    let set = c.read_old_set.ensures ∙ ap (λ (p : ℕ). set_at old_layout.masks a.old.now (at + p)) place in
-    rw (← set) c.find_shared-best.ensures in
-    let start = c in
-    let a = start.args in
     let l = c.loop-left in
     let rest = rows_at old_layout.masks l.left a.old.now l.at in
     let s = set_at old_layout.masks a.old.now (l.at + place_of_set old_layout.masks a.kind) in
     let none : c.find_shared-best.result ≡ 0 = omega (arith, c.if-best-gt0.false) in
-    let nothing = sym (here) ∙ none in
-    let some : 0 < l.left = omega (arith, c.loop-left-test.true, start.requires.1) in
+    let nothing = sym (here found) ∙ none in
+    let some : 0 < l.left = omega (arith, c.loop-left-test.true, c.requires.1) in
     let down = holders_down old_layout.masks l.left a.old.now l.at window a.kind in (
       λ t low p.
           let as_many = l.invariant.0 t low p in

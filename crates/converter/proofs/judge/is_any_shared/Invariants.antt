@@ -17,12 +17,13 @@ Left kind m low all rest =
     (t : ℕ) → low ≤ t → m ≤ holders window kind t all → holders window kind t all ≤ holders window kind t rest
 
 -- and none is held by more of those left
-abbrev Part : ℕ → List Row → List Row → Type 0
+abbrev pub Part : ℕ → List Row → List Row → Type 0
 Part kind all rest = (t : ℕ) → holders window kind t rest ≤ holders window kind t all
 
 -- ---- the loop
 abbrev pub invariant-loop-left : goal.invariant-loop-left
-invariant-loop-left l = Left l.kind l.m l.low (old_rows l.n l.old) (rows_at old_layout.masks l.left l.old l.at)
+invariant-loop-left l =
+    Left l.kind l.m l.low (old_rows l.n l.old) (rows_at old_layout.masks l.left l.old l.at)
     × (l.at + l.left * row_size old_layout.masks ≤ length l.old)
     × Part l.kind (old_rows l.n l.old) (rows_at old_layout.masks l.left l.old l.at)
 

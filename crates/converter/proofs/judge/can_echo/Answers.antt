@@ -8,6 +8,7 @@ use lib.Dec.{ltb, leb}
 use Rattle.rules.specs.Describe.{window}
 use Rattle.rules.specs.Rules.{can_r1}
 use Rattle.converter.specs.Old.{old_rows}
+use Rattle.converter.proofs.judge.can_echo.Goals.{Else-enough-inits}
 use Rattle.converter.proofs.judge.can_echo.Goals as goal
 
 -- the test of R1 and of R2 passes
@@ -22,26 +23,30 @@ returns-then-enough-inits c =
       held-unsent (p.faults + 1) c.count_old-inits.result p.sent p.tick (omega arith) (omega arith),
     )
 
+-- past the test of inits R1 cannot fire
+no-init : (c : Else-enough-inits) →
+    let a = c.args in
+    can_r1 window a.node (old_rows a.node.lines a.old.now) ≡ false
+no-init c =
+    let p = c.args.node in
+    rw (← c.count_old-inits.ensures.0, lt-leb (p.faults + 1) c.count_old-inits.result (omega arith))
+
 pub returns-then-enough-echoes : goal.returns-then-enough-echoes
 returns-then-enough-echoes c =
-    let no-init : let a = c.args in can_r1 window a.node (old_rows a.node.lines a.old.now) ≡ false =
-    let p = c.args.node in
-    rw (← c.count_old-inits.ensures.0, lt-leb (p.faults + 1) c.count_old-inits.result (omega arith)) in
+    let few_inits = (goal.at.returns-then-enough-echoes c).Else-enough-inits in
     let p = c.args.node in
     rw (
-      no-init,
+      no-init few_inits,
       ← c.count_old-echoes.ensures.0,
       held-unsent (p.faults + 1) c.count_old-echoes.result p.sent p.tick (omega arith) (omega arith),
     )
 
 pub returns-else-enough-echoes : goal.returns-else-enough-echoes
 returns-else-enough-echoes c =
-    let no-init : let a = c.args in can_r1 window a.node (old_rows a.node.lines a.old.now) ≡ false =
-    let p = c.args.node in
-    rw (← c.count_old-inits.ensures.0, lt-leb (p.faults + 1) c.count_old-inits.result (omega arith)) in
+    let few_inits = (goal.at.returns-else-enough-echoes c).Else-enough-inits in
     let p = c.args.node in
     rw (
-      no-init,
+      no-init few_inits,
       ← c.count_old-echoes.ensures.0,
       lt-leb (p.faults + 1) c.count_old-echoes.result (omega arith),
     )

@@ -9,19 +9,22 @@ use Rattle.node.specs.Image.{sound_image}
 use Rattle.node.specs.Layout.{layout, old_layout, image_size}
 use Rattle.node.proofs.Sound.{SoundBytes, sound_bytes}
 use Rattle.converter.specs.Convert.{conversion_number}
+use Rattle.converter.proofs.calls.convert_number.Goals.{Else-not-is_sound_old}
 use Rattle.converter.proofs.calls.convert_number.Goals as goal
 
 pub returns-then-not-is_sound_old : goal.returns-then-not-is_sound_old
 unfolding conversion_number
 returns-then-not-is_sound_old c = rw (sym c.is_sound_old.ensures ∙ c.if-not-is_sound_old.true)
 
+-- past the first test the old image is sound
+sound : (c : Else-not-is_sound_old) → sound_image old_layout last_tick c.args.old.now ≡ true
+sound c = sym c.is_sound_old.ensures ∙ c.if-not-is_sound_old.false
+
+facts : (c : Else-not-is_sound_old) → SoundBytes old_layout last_tick c.args.old.now
+facts c = sound_bytes old_layout last_tick c.args.old.now (sound c)
+
 pub bounds-old-0 : goal.bounds-old-0
-bounds-old-0 c =
-    let sound : sound_image old_layout last_tick c.args.old.now ≡ true =
-    sym c.is_sound_old.ensures ∙ c.if-not-is_sound_old.false in
-    let facts : SoundBytes old_layout last_tick c.args.old.now =
-    sound_bytes old_layout last_tick c.args.old.now (sound) in
-    omega (arith, (facts).header)
+bounds-old-0 c = omega (arith, (facts (goal.at.bounds-old-0 c).Else-not-is_sound_old).header)
 
 pub overflow_cast-n : goal.overflow_cast-n
 overflow_cast-n c = omega (arith, c.shared_slice_known-2-1.given 0)
@@ -35,15 +38,13 @@ overflow_add-n c = omega (arith, c.shared_slice_known-2-1.given 0)
 pub returns-then-room-n : goal.returns-then-room-n
 unfolding conversion_number
 returns-then-room-n c =
-    let sound : sound_image old_layout last_tick c.args.old.now ≡ true =
-    sym c.is_sound_old.ensures ∙ c.if-not-is_sound_old.false in
+    let past = (goal.at.returns-then-room-n c).Else-not-is_sound_old in
     let a = c.args in
-    rw (sound, lt-ltb a.room (image_size layout (get_or a.old.now 0 0)) (omega arith))
+    rw (sound past, lt-ltb a.room (image_size layout (get_or a.old.now 0 0)) (omega arith))
 
 pub returns : goal.returns
 unfolding conversion_number
 returns c =
-    let sound : sound_image old_layout last_tick c.args.old.now ≡ true =
-    sym c.is_sound_old.ensures ∙ c.if-not-is_sound_old.false in
+    let past = (goal.at.returns c).Else-not-is_sound_old in
     let a = c.args in
-    rw (sound, le-ltb a.room (image_size layout (get_or a.old.now 0 0)) (omega arith))
+    rw (sound past, le-ltb a.room (image_size layout (get_or a.old.now 0 0)) (omega arith))

@@ -9,7 +9,9 @@ use Rattle.converter.specs.Old.{old_rows}
 use Rattle.converter.proofs.judge.are_old_proper.Given as goal
 
 abbrev pub invariant-loop-left : goal.invariant-loop-left
-invariant-loop-left l = (proper_rows window last_tick (old_rows l.n l.old) ≡ proper_rows window last_tick (rows_at old_layout.masks l.left l.old l.at))
+invariant-loop-left l =
+    (proper_rows window last_tick (old_rows l.n l.old)
+    ≡ proper_rows window last_tick (rows_at old_layout.masks l.left l.old l.at))
     × (l.at + l.left * row_size old_layout.masks ≤ length l.old)
 
 abbrev pub decreases-loop-left : goal.decreases-loop-left

@@ -1,6 +1,5 @@
 -- `calls::is_sound_old_state` meets its contract: each test that fails makes one part of a sound state false, and past them the last part
 -- decides. Old masks have no room for a tick outside the old window, so the rules of today judge the old state.
-use borrow.Author.Rules.{rules}
 use mathlib.Core.Path.{◌≡◌, refl, sym, ap, ◌∙◌}
 use mathlib.Core.Bool.{◌&&◌}
 use mathlib.Core.List.{List}

@@ -24,10 +24,10 @@ returns-then-enough-inits c =
     )
 
 -- past the test of inits R1 cannot fire
-no-init : (c : Else-enough-inits) →
+no_init : (c : Else-enough-inits) →
     let a = c.args in
     can_r1 window a.node (old_rows a.node.lines a.old.now) ≡ false
-no-init c =
+no_init c =
     let p = c.args.node in
     rw (← c.count_old-inits.ensures.0, lt-leb (p.faults + 1) c.count_old-inits.result (omega arith))
 
@@ -36,7 +36,7 @@ returns-then-enough-echoes c =
     let few_inits = (goal.at.returns-then-enough-echoes c).Else-enough-inits in
     let p = c.args.node in
     rw (
-      no-init few_inits,
+      no_init few_inits,
       ← c.count_old-echoes.ensures.0,
       held-unsent (p.faults + 1) c.count_old-echoes.result p.sent p.tick (omega arith) (omega arith),
     )
@@ -46,7 +46,7 @@ returns-else-enough-echoes c =
     let few_inits = (goal.at.returns-else-enough-echoes c).Else-enough-inits in
     let p = c.args.node in
     rw (
-      no-init few_inits,
+      no_init few_inits,
       ← c.count_old-echoes.ensures.0,
       lt-leb (p.faults + 1) c.count_old-echoes.result (omega arith),
     )

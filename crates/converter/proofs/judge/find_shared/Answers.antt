@@ -1,7 +1,6 @@
 -- `judge::find_shared` meets its contract: the search that is left finds what the whole search would. What is left of the mask has the
 -- bits of the ticks from the one in hand down, which is the lowest bit; so where nothing is left of it, the search would find nothing.
 use mathlib.Core.Path.{◌≡◌, refl, sym, ap, ap₂, ◌∙◌}
-use mathlib.Core.Logic.{⊎_elim}
 use mathlib.Core.Bool.{Bool, false, ◌&&◌, and-false}
 use mathlib.Core.List.{List}
 use Prim.Native.Nat.{ℕ, zero, suc, ◌+◌, ◌-◌, ◌/◌, ◌%◌, ◌^◌, ◌≤◌, ◌<◌}

@@ -1,7 +1,7 @@
 -- `judge::is_any_shared` meets its contract: a tick that m rows hold is held by none of the rows that show nothing, so it is held by m of
 -- the rows left, which are all that a search has to count; and fewer than m rows hold none.
 use mathlib.Core.List.{List}
-use Prim.Native.Nat.{ℕ, ◌+◌, ◌-◌, ◌*◌, ◌≤◌}
+use Prim.Native.Nat.{ℕ, ◌+◌, ◌*◌, ◌≤◌}
 use lib.ListN.{length}
 use Rattle.evidence.specs.Holders.{holders}
 use Rattle.evidence.specs.Rows.{Row, row_size, rows_at}

@@ -5,9 +5,9 @@ use Prim.Native.Nat.{ℕ, ◌+◌, ◌*◌, ◌-◌, ◌≤◌, ◌<◌}
 use native.Mathlib.Nat.{sub-zero}
 use native.Mathlib.Omega.{arith}
 use Rattle.sets.specs.Sets.{mask_bytes}
-use Rattle.evidence.specs.Rows.{row_bytes, row_size, row_at, rows_at, put_row_bytes, put_rows}
+use Rattle.evidence.specs.Rows.{row_bytes, row_at, rows_at, put_row_bytes, put_rows}
 use Rattle.evidence.proofs.Layouts.{rows_down}
-use Rattle.node.specs.Layout.{old_layout, header_size}
+use Rattle.node.specs.Layout.{header_size}
 use Rattle.converter.proofs.rows.widen_rows.Invariants.{masks, oldRow, rest}
 use Rattle.converter.proofs.rows.widen_rows.Goals as goal
 

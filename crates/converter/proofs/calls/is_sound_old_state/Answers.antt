@@ -55,7 +55,7 @@ inside : (c : After-read_node-node) → image_size old_layout c.read_node-node.r
 unfolding node_of
 inside c = rw c.read_node-node.ensures c.requires
 
--- past the refusal the roster is in order
+-- the roster's number is the verdict's: past the refusal the roster is in order
 roster : (c : In_default) →
     let old = c.args.old.now in
     let p = c.read_node-node.result in

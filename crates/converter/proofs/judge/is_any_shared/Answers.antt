@@ -44,7 +44,8 @@ module _ (kind m low : ℕ) (rest : List Row) (s : Held) where
       ]
 
 -- its mask is one word
-one_word : (old : List ℕ) (i : ℕ) (s : Ticks) → Bytes old → held_by s ≡ set_at old_layout.masks old i → mask_by s.mask < 2 ^ old_layout.window
+one_word : (old : List ℕ) (i : ℕ) (s : Ticks) →
+    Bytes old → held_by s ≡ set_at old_layout.masks old i → mask_by s.mask < 2 ^ old_layout.window
 unfolding set_at
 one_word old i s bytes e = rw (ap (λ (h : Held). h.mask) e) (field_lt old_layout.masks old (i + 4) bytes)
 

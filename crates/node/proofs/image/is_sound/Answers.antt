@@ -1,54 +1,48 @@
 -- `image::is_sound` meets its contract: without its header an image is not sound, and with it its state decides.
 use mathlib.Core.Path.{◌≡◌, sym, ap, ◌∙◌}
-use mathlib.Core.Bool.{true}
+use mathlib.Core.Bool.{Bool, true}
+use mathlib.Core.List.{List}
+use Prim.Native.Nat.{ℕ}
 use Rattle.rules.specs.Describe.{window, last_tick}
 use Rattle.rules.specs.declared.node.Node.{Node}
 use Rattle.node.specs.Image.{node_of, state_of, state_with, headed, sound_state, sound_image}
 use Rattle.node.specs.Layout.{layout}
 use Rattle.node.specs.declared.layout.Layout.{Layout}
 use Rattle.node.proofs.Sound.{Headed, headed_facts, rows_inside}
+use Rattle.node.proofs.image.is_sound.Goals.{Else-not-has_header}
 use Rattle.node.proofs.image.is_sound.Goals as goal
+
+-- the header is judged by the layout in service
+judged : {L : Layout} {judgement : Bool} (b : List ℕ)
+    → judgement ≡ headed L b
+    → L ≡ layout
+    → judgement ≡ headed layout b
+judged b by in_service = by ∙ ap (λ (L : Layout). headed L b) in_service
 
 pub returns-then-not-has_header : goal.returns-then-not-has_header
 unfolding sound_image
 returns-then-not-has_header c =
-    let judged : c.has_header.result ≡ headed layout c.args.b.now =
-    let b = c.args.b.now in
-    c.has_header.ensures ∙ ap (λ (L : Layout). headed L b) c.in_service.ensures in
-    rw (sym (judged) ∙ c.if-not-has_header.true)
+    rw (sym (judged c.args.b.now c.has_header.ensures c.in_service.ensures) ∙ c.if-not-has_header.true)
+
+-- past the test the header is there
+there : (c : Else-not-has_header) → headed layout c.args.b.now ≡ true
+there c = sym (judged c.args.b.now c.has_header.ensures c.in_service.ensures) ∙ c.if-not-has_header.false
+
+facts : (c : Else-not-has_header) → Headed layout c.args.b.now
+facts c = headed_facts layout c.args.b.now (there c)
 
 pub read_node-requires : goal.read_node-requires
-read_node-requires c =
-    let judged : c.has_header.result ≡ headed layout c.args.b.now =
-    let b = c.args.b.now in
-    c.has_header.ensures ∙ ap (λ (L : Layout). headed L b) c.in_service.ensures in
-    let there : headed layout c.args.b.now ≡ true =
-    sym (judged) ∙ c.if-not-has_header.false in
-    let facts : Headed layout c.args.b.now =
-    headed_facts layout c.args.b.now (there) in
-    (facts).header
+read_node-requires c = (facts (goal.at.read_node-requires c).Else-not-has_header).header
 
 pub is_sound_state-requires : goal.is_sound_state-requires
 unfolding node_of
 is_sound_state-requires c =
-    let judged : c.has_header.result ≡ headed layout c.args.b.now =
-    let b = c.args.b.now in
-    c.has_header.ensures ∙ ap (λ (L : Layout). headed L b) c.in_service.ensures in
-    let there : headed layout c.args.b.now ≡ true =
-    sym (judged) ∙ c.if-not-has_header.false in
-    let facts : Headed layout c.args.b.now =
-    headed_facts layout c.args.b.now (there) in
-    let b = c.args.b.now in
-    rw c.read_node.ensures (rows_inside layout b (facts).fixed (facts).stated)
+    let header = facts (goal.at.is_sound_state-requires c).Else-not-has_header in
+    rw c.read_node.ensures (rows_inside layout c.args.b.now header.fixed header.stated)
 
 pub returns : goal.returns
 unfolding sound_image state_of node_of
 returns c =
-    let judged : c.has_header.result ≡ headed layout c.args.b.now =
     let b = c.args.b.now in
-    c.has_header.ensures ∙ ap (λ (L : Layout). headed L b) c.in_service.ensures in
-    let there : headed layout c.args.b.now ≡ true =
-    sym (judged) ∙ c.if-not-has_header.false in
-    let b = c.args.b.now in
-    rw (there)
+    rw (there (goal.at.returns c).Else-not-has_header)
     (c.is_sound_state.ensures ∙ ap (λ (p : Node). sound_state window last_tick (state_with layout p b)) c.read_node.ensures)

@@ -42,7 +42,7 @@ pub bounds-image-0 : goal.bounds-image-0
 bounds-image-0 c = omega (arith, (facts (goal.at.bounds-image-0 c).Else-not-is_sound).header)
 
 pub overflow_cast-n : goal.overflow_cast-n
-overflow_cast-n c = omega (arith, c.shared_slice_known-2-1.given 0)
+overflow_cast-n c = omega (arith, c.type_inv.image 0)
 
 pub stands-requires : goal.stands-requires
 stands-requires c =

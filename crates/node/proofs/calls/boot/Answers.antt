@@ -15,19 +15,21 @@ use Rattle.node.specs.Image.{put_state}
 use Rattle.node.specs.Layout.{layout, image_size}
 use Rattle.rules.specs.Record.{put_records}
 use Rattle.node.proofs.Taken.{form_refuses, told_form, form_limits}
+use Rattle.node.proofs.calls.boot.Goals.{In-Taken}
 use Rattle.node.proofs.calls.boot.Goals as goal
+
+-- a form that the reader took has number 0, and what was told are its own fields
+taken : (c : In-Taken) →
+    let b = c.args.form.now in
+    (form_number b ≡ 0)
+    × (◌≡◌ {A = Form} c.in-Taken.roster (record { lines = lines_of b; faults = faults_of b; own = own_of b }))
+taken c = told_form c.args.form.now c.read_form-told.result c.in-Taken.roster c.read_form-told.ensures c.in-Taken.is
 
 pub returns-then-image-n : goal.returns-then-image-n
 unfolding booted boot_number
 returns-then-image-n c =
-    let bytes : List ℕ =
-    c.args.form.now in
-    let taken : let b = bytes in let form = c.in-Taken.roster in (form_number b ≡ 0) × (◌≡◌ {A = Form} form (record { lines = lines_of b; faults = faults_of b; own = own_of b })) =
-    let told = c in
-    let read = told in
-    told_form (bytes) read.read_form-told.result told.in-Taken.roster read.read_form-told.ensures told.in-Taken.is in
     let a = c.args in
-    let t = taken in
+    let t = taken (goal.at.returns-then-image-n c).In-Taken in
     rw (
       t.0,
       lt-ltb (length a.image.now) (image_size layout (lines_of a.form.now)) (omega (arith, ap (λ (f : Form). f.lines) t.1)),
@@ -36,14 +38,8 @@ returns-then-image-n c =
 pub returns-then-out-lt-ROOM : goal.returns-then-out-lt-ROOM
 unfolding booted boot_number
 returns-then-out-lt-ROOM c =
-    let bytes : List ℕ =
-    c.args.form.now in
-    let taken : let b = bytes in let form = c.in-Taken.roster in (form_number b ≡ 0) × (◌≡◌ {A = Form} form (record { lines = lines_of b; faults = faults_of b; own = own_of b })) =
-    let told = c in
-    let read = told in
-    told_form (bytes) read.read_form-told.result told.in-Taken.roster read.read_form-told.ensures told.in-Taken.is in
     let a = c.args in
-    let t = taken in
+    let t = taken (goal.at.returns-then-out-lt-ROOM c).In-Taken in
     rw (
       t.0,
       le-ltb (length a.image.now) (image_size layout (lines_of a.form.now)) (omega (arith, ap (λ (f : Form). f.lines) t.1)),
@@ -52,31 +48,18 @@ returns-then-out-lt-ROOM c =
 
 pub put_node-requires : goal.put_node-requires
 put_node-requires c =
-    let bytes : List ℕ =
-    c.args.form.now in
-    let taken : let b = bytes in let form = c.in-Taken.roster in (form_number b ≡ 0) × (◌≡◌ {A = Form} form (record { lines = lines_of b; faults = faults_of b; own = own_of b })) =
-    let told = c in
-    let read = told in
-    told_form (bytes) read.read_form-told.result told.in-Taken.roster read.read_form-told.ensures told.in-Taken.is in
-    let known = c in
-    rw (c.new.ensures, (taken).1) (omega (arith, form_limits (bytes) (taken).0))
+    let t = taken (goal.at.put_node-requires c).In-Taken in
+    rw (c.new.ensures, t.1) (omega (arith, form_limits c.args.form.now t.0))
 
 pub put_fresh_rows-requires : goal.put_fresh_rows-requires
 put_fresh_rows-requires c =
-    let bytes : List ℕ =
-    c.args.form.now in
-    let taken : let b = bytes in let form = c.in-Taken.roster in (form_number b ≡ 0) × (◌≡◌ {A = Form} form (record { lines = lines_of b; faults = faults_of b; own = own_of b })) =
-    let told = c in
-    let read = told in
-    told_form (bytes) read.read_form-told.result told.in-Taken.roster read.read_form-told.ensures told.in-Taken.is in
-    let put = c in
-    let known = put in
+    let t = taken (goal.at.put_fresh_rows-requires c).In-Taken in
     omega (
       arith,
-      put.put_node.auto.b,
-      put.if-image-n.false,
-      ap (λ (f : Form). f.lines) (taken).1,
-      form_length (bytes) (taken).0,
+      c.put_node.auto.b,
+      c.if-image-n.false,
+      ap (λ (f : Form). f.lines) t.1,
+      form_length c.args.form.now t.0,
     )
 
 pub returns-in-Refused : goal.returns-in-Refused
@@ -88,36 +71,24 @@ returns-in-Refused c =
     let refused = told_refused a.form.now why told in
     rw (form_refuses layout a.form.now (length a.image.now) (length a.out.now) why refused, refusal why, c.number.ensures)
 
+-- the definition's outcome, with the bytes as the stores left them; what is sent is echo 0 to all
 pub returns-else-out-lt-ROOM : goal.returns-else-out-lt-ROOM
 unfolding booted boot_number fresh_state put_state put_records
 returns-else-out-lt-ROOM c =
-    let bytes : List ℕ =
-    c.args.form.now in
-    let taken : let b = bytes in let form = c.in-Taken.roster in (form_number b ≡ 0) × (◌≡◌ {A = Form} form (record { lines = lines_of b; faults = faults_of b; own = own_of b })) =
-    let told = c in
-    let read = told in
-    told_form (bytes) read.read_form-told.result told.in-Taken.roster read.read_form-told.ensures told.in-Taken.is in
-    let sent : let known = c in let a = known.args in c.put_broadcast.new.out ≡ put_records a.out.now 0 boot_records =
-    c.put_broadcast.ensures in
-    let done : let known = c in let a = known.args in booted layout a.form.now a.image.now a.out.now ≡ record { number = 0; records = 1; fired = 0; image = c.put_fresh_rows.new.b; out = c.put_broadcast.new.out } =
-    let rows = c in
-    let put = rows in
-    let fits = put in
-    let known = fits in
-    let a = known.args in
-    let t = taken in
-    rw (
+    let a = c.args in
+    let t = taken (goal.at.returns-else-out-lt-ROOM c).In-Taken in
+    sym
+    (rw (
       t.0,
       le-ltb (length a.image.now) (image_size layout (lines_of a.form.now)) (omega (
         arith,
-        fits.if-image-n.false,
+        c.if-image-n.false,
         ap (λ (f : Form). f.lines) t.1,
       )),
-      le-ltb (length a.out.now) room fits.if-out-lt-ROOM.false,
-      sent,
-      rows.put_fresh_rows.ensures,
-      put.put_node.ensures,
-      put.new.ensures,
+      le-ltb (length a.out.now) room c.if-out-lt-ROOM.false,
+      c.put_broadcast.ensures,
+      c.put_fresh_rows.ensures,
+      c.put_node.ensures,
+      c.new.ensures,
       t.1,
-    ) in
-    sym (done)
+    ))

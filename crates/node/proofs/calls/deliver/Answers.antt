@@ -9,7 +9,7 @@ use Prim.Native.Nat.{ℕ, ◌≤◌}
 use borrow.Author.Tests.{eqb-false, ne_eqb}
 use Rattle.forms.specs.Frame.{frame_at, frame_number}
 use Rattle.forms.proofs.Told.{refusal, first_given}
-use Rattle.node.specs.Calls.{Outcome, refused, number_before_a_frame, deliver_number, delivery_of, image_after, deliver_outcome}
+use Rattle.node.specs.Calls.{Outcome, refused, deliver_number, delivery_of, image_after, deliver_outcome}
 use Rattle.rules.specs.Describe.{window, last_tick}
 use Rattle.node.specs.Image.{node_of, state_of}
 use Rattle.node.specs.Layout.{layout, header_size}
@@ -18,6 +18,7 @@ use Rattle.rules.proofs.Clock.{delivered_ordered}
 use Rattle.node.proofs.Outcomes.{deliver_refused}
 use Rattle.node.proofs.Sound.{SoundBytes, sound_bytes, sound_rows, sound_once, sound_rest}
 use Rattle.node.proofs.Taken.{told_frame_refused, told_frame, Taken, deliver_taken, frame_whole}
+use Rattle.node.proofs.calls.deliver.Goals.{In-Taken, After-deliver-next}
 use Rattle.node.proofs.calls.deliver.Goals as goal
 
 -- ---- refused: the number is the first of the two that is not 0
@@ -28,14 +29,6 @@ refuses : (image : List ℕ) (port : ℕ) (frame out : List ℕ) (k : ℕ)
 refuses image port frame out k e n =
     sym (deliver_refused layout last_tick image port frame out (λ z. n (sym e ∙ z)) ∙ ap (λ (m : ℕ). refused m image out) e)
 
--- what is reported is what the engine counted
-reports : {image out : List ℕ} {records fired n m : ℕ}
-    → records ≡ n
-    → fired ≡ m
-    → ◌≡◌ {A = Outcome} (record { number = 0; records = records; fired = fired; image = image; out = out })
-    (record { number = 0; records = n; fired = m; image = image; out = out })
-reports {image} {out} e f d = record { number = 0; records = e d; fired = f d; image = image; out = out }
-
 pub returns-then-number-ne0 : goal.returns-then-number-ne0
 unfolding deliver_number
 returns-then-number-ne0 c =
@@ -45,107 +38,94 @@ returns-then-number-ne0 c =
     refuses a.image.now a.port a.frame.now a.out.now number.result
     (rw (← number.ensures) (first_given number.result (frame_number last_tick a.frame.now) (ne_eqb number.result 0 some))) some
 
+-- past the test room, image and port give 0, and the number is the frame's
 pub returns-in-Refused : goal.returns-in-Refused
 unfolding deliver_number
 returns-in-Refused c =
-    let passed : let a = c.args in number_before_a_frame layout last_tick a.image.now a.port (length a.out.now) ≡ 0 =
-    sym c.number_before_frame-number.ensures ∙ c.if-number-ne0.false in
-    let why = c in
-    let read = why in
-    let a = read.args in
+    let a = c.args in
     refuses a.image.now a.port a.frame.now a.out.now c.number.result
-    (rw (passed)
-    (told_frame_refused last_tick _ _ _ read.read_frame.ensures why.in-Refused.is ∙ sym c.number.ensures))
-    (λ z. eqb-false _ 0 (refusal why.in-Refused.why) (sym c.number.ensures ∙ z))
+    (rw (sym c.number_before_frame-number.ensures ∙ c.if-number-ne0.false)
+    (told_frame_refused last_tick _ _ _ c.read_frame.ensures c.in-Refused.is ∙ sym c.number.ensures))
+    (λ z. eqb-false _ 0 (refusal c.in-Refused.why) (sym c.number.ensures ∙ z))
+
+-- ---- taken
+
+-- past the test room, image and port give 0; past the reader the frame is that of the bytes, and the number is 0
+success : (c : In-Taken) →
+    let a = c.args in
+    deliver_number layout last_tick a.image.now a.port a.frame.now (length a.out.now) ≡ 0
+unfolding deliver_number
+success c =
+    rw (sym c.number_before_frame-number.ensures ∙ c.if-number-ne0.false)
+    (told_frame last_tick _ _ _ c.read_frame.ensures c.in-Taken.is).0
+
+taken : (c : In-Taken) →
+    let a = c.args in
+    Taken layout last_tick a.image.now a.port a.frame.now (length a.out.now)
+taken c =
+    let a = c.args in
+    deliver_taken layout last_tick a.image.now a.port a.frame.now (length a.out.now) (success c)
+
+sound : (c : In-Taken) → SoundBytes layout last_tick c.args.image.now
+sound c = sound_bytes layout last_tick c.args.image.now (taken c).sound
 
 pub read_node-node-requires : goal.read_node-node-requires
-unfolding deliver_number
-read_node-node-requires c =
-    let passed : let a = c.args in number_before_a_frame layout last_tick a.image.now a.port (length a.out.now) ≡ 0 =
-    sym c.number_before_frame-number.ensures ∙ c.if-number-ne0.false in
-    let success : let a = c.args in deliver_number layout last_tick a.image.now a.port a.frame.now (length a.out.now) ≡ 0 =
-    let read = c in
-    rw (passed) (told_frame last_tick _ _ _ read.read_frame.ensures c.in-Taken.is).0 in
-    let taken : let a = c.args in Taken layout last_tick a.image.now a.port a.frame.now (length a.out.now) =
-    let a = c.args in
-    deliver_taken layout last_tick a.image.now a.port a.frame.now (length a.out.now) (success) in
-    let sound : SoundBytes layout last_tick c.args.image.now =
-    sound_bytes layout last_tick c.args.image.now (taken).sound in
-    (sound).header
+read_node-node-requires c = (sound (goal.at.read_node-node-requires c).In-Taken).header
 
 -- a sound image has no serial twice, whichever port is meant; that it is the call's shows in `done`
 pub deliver-next-requires : goal.deliver-next-requires
-unfolding node_of deliver_number
+unfolding node_of
 deliver-next-requires c =
-    let passed : let a = c.args in number_before_a_frame layout last_tick a.image.now a.port (length a.out.now) ≡ 0 =
-    sym c.number_before_frame-number.ensures ∙ c.if-number-ne0.false in
-    let success : let a = c.args in deliver_number layout last_tick a.image.now a.port a.frame.now (length a.out.now) ≡ 0 =
-    let read = c in
-    rw (passed) (told_frame last_tick _ _ _ read.read_frame.ensures c.in-Taken.is).0 in
-    let taken : let a = c.args in Taken layout last_tick a.image.now a.port a.frame.now (length a.out.now) =
-    let a = c.args in
-    deliver_taken layout last_tick a.image.now a.port a.frame.now (length a.out.now) (success) in
-    let sound : SoundBytes layout last_tick c.args.image.now =
-    sound_bytes layout last_tick c.args.image.now (taken).sound in
-    let whole = c in
-    let image = whole.args.image.now in
+    let whole = (goal.at.deliver-next-requires c).In-Taken in
+    let image = c.args.image.now in
     rw c.read_node-node.ensures
     (record {
-      rows = sound_rows last_tick image (sound);
-      space = (taken).space;
-      once = sound_once last_tick image (sound) _;
-      rest = sound_rest last_tick image (sound);
+      rows = sound_rows last_tick image (sound whole);
+      space = (taken whole).space;
+      once = sound_once last_tick image (sound whole) _;
+      rest = sound_rest last_tick image (sound whole);
     })
 
-pub put_clock-requires : goal.put_clock-requires
-unfolding deliver_number delivery_of state_of node_of
-put_clock-requires c =
-    let passed : let a = c.args in number_before_a_frame layout last_tick a.image.now a.port (length a.out.now) ≡ 0 =
-    sym c.number_before_frame-number.ensures ∙ c.if-number-ne0.false in
-    let success : let a = c.args in deliver_number layout last_tick a.image.now a.port a.frame.now (length a.out.now) ≡ 0 =
-    let read = c in
-    rw (passed) (told_frame last_tick _ _ _ read.read_frame.ensures c.in-Taken.is).0 in
-    let taken : let a = c.args in Taken layout last_tick a.image.now a.port a.frame.now (length a.out.now) =
+-- what the engine promises is the delivery of the definition
+done : (c : After-deliver-next) →
     let a = c.args in
-    deliver_taken layout last_tick a.image.now a.port a.frame.now (length a.out.now) (success) in
-    let sound : SoundBytes layout last_tick c.args.image.now =
-    sound_bytes layout last_tick c.args.image.now (taken).sound in
-    let done : let a = c.args in let d = delivery_of layout last_tick a.image.now a.port a.frame.now in let last = c.deliver-next.new in DeliveredAs d a.image.now header_size a.out.now c.deliver-next.result last.b last.out =
-    let node = c in
-    let whole = node in
-    let read = whole in
-    rw (node.read_node-node.ensures, (told_frame last_tick _ _ _ read.read_frame.ensures whole.in-Taken.is).1) at
-    c.deliver-next.ensures in
+    let d = delivery_of layout last_tick a.image.now a.port a.frame.now in
+    let last = c.deliver-next.new in
+    DeliveredAs d a.image.now header_size a.out.now c.deliver-next.result last.b last.out
+unfolding delivery_of state_of node_of
+done c =
+    rw (c.read_node-node.ensures, (told_frame last_tick _ _ _ c.read_frame.ensures c.in-Taken.is).1) at
+    c.deliver-next.ensures
+
+pub put_clock-requires : goal.put_clock-requires
+unfolding delivery_of
+put_clock-requires c =
+    let whole = (goal.at.put_clock-requires c).In-Taken in
+    let engine = (goal.at.put_clock-requires c).After-deliver-next in
+    -- the mode is still 0 or 1
     let mode : c.deliver-next.result.node.mode ≤ 1 =
-    let whole = c in
-    let a = whole.args in
-    let s = (sound).node in
-    rw (done).node
+    let a = c.args in
+    let s = (sound whole).node in
+    rw (done engine).node
     (delivered_ordered window last_tick (state_of layout a.image.now) a.port (frame_at a.frame.now 0) (lit< tt) s.sets
-    (frame_whole last_tick a.frame.now (taken).shape).tick (record { mode = s.mode; sent = s.sent; tick = s.tick })).mode in
-    let engine = c in
-    omega (arith, engine.deliver-next.auto.b, (sound).header, mode)
+    (frame_whole last_tick a.frame.now (taken whole).shape).tick (record { mode = s.mode; sent = s.sent; tick = s.tick })).mode in
+    omega (arith, c.deliver-next.auto.b, (sound whole).header, mode)
+
+-- what is reported is what the engine counted
+reports : {image out : List ℕ} {records fired n m : ℕ}
+    → records ≡ n
+    → fired ≡ m
+    → ◌≡◌ {A = Outcome} (record { number = 0; records = records; fired = fired; image = image; out = out })
+    (record { number = 0; records = n; fired = m; image = image; out = out })
+reports {image} {out} e f d = record { number = 0; records = e d; fired = f d; image = image; out = out }
 
 pub returns-in-Taken : goal.returns-in-Taken
-unfolding deliver_outcome image_after deliver_number delivery_of state_of node_of
+unfolding deliver_outcome image_after
 returns-in-Taken c =
-    let passed : let a = c.args in number_before_a_frame layout last_tick a.image.now a.port (length a.out.now) ≡ 0 =
-    sym c.number_before_frame-number.ensures ∙ c.if-number-ne0.false in
-    let success : let a = c.args in deliver_number layout last_tick a.image.now a.port a.frame.now (length a.out.now) ≡ 0 =
-    let read = c in
-    rw (passed) (told_frame last_tick _ _ _ read.read_frame.ensures c.in-Taken.is).0 in
-    let done : let a = c.args in let d = delivery_of layout last_tick a.image.now a.port a.frame.now in let last = c.deliver-next.new in DeliveredAs d a.image.now header_size a.out.now c.deliver-next.result last.b last.out =
-    let node = c in
-    let whole = node in
-    let read = whole in
-    rw (node.read_node-node.ensures, (told_frame last_tick _ _ _ read.read_frame.ensures whole.in-Taken.is).1) at
-    c.deliver-next.ensures in
-    let clock = c in
-    let engine = clock in
-    let d = done in
+    let d = done (goal.at.returns-in-Taken c).After-deliver-next in
     rw (
-      success,
-      clock.put_clock.ensures,
+      success (goal.at.returns-in-Taken c).In-Taken,
+      c.put_clock.ensures,
       d.node,
       d.rows,
       d.bytes,

@@ -1,8 +1,6 @@
 -- `calls::boot` meets its contract: the tests are those of the definition, a form that is taken keeps the limits, and the
 -- stores are the fresh node's.
 use mathlib.Core.Path.{◌≡◌, sym, ap, ◌∙◌}
-use mathlib.Core.List.{List}
-use Prim.Native.Nat.{ℕ}
 use native.Mathlib.Omega.{arith}
 use lib.ListN.{length}
 use borrow.Author.Tests.{lt-ltb, le-ltb}
@@ -10,7 +8,7 @@ use Rattle.forms.specs.Form.{lines_of, faults_of, own_of, form_number, told_by}
 use Rattle.forms.specs.declared.form.Form.{Form}
 use Rattle.forms.proofs.Told.{refusal, told_refused, form_length}
 use Rattle.node.specs.Calls.{boot_number, fresh_state, booted}
-use Rattle.rules.specs.Describe.{room, boot_records}
+use Rattle.rules.specs.Describe.{room}
 use Rattle.node.specs.Image.{put_state}
 use Rattle.node.specs.Layout.{layout, image_size}
 use Rattle.rules.specs.Record.{put_records}

@@ -27,7 +27,7 @@ unfolding number_before_a_frame
 returns-then-not-is_sound c =
     let a = c.args in
     rw (
-      le-ltb a.room room c.if-room-lt-ROOM.false,
+      le-ltb a.room room (omega arith),
       sym c.is_sound.ensures ∙ c.if-not-is_sound.true,
     )
 
@@ -60,7 +60,7 @@ counted : (c : Else-not-is_sound) →
 unfolding number_before_a_frame
 counted c =
     let a = c.args in
-    rw (le-ltb a.room room c.if-room-lt-ROOM.false, sound c)
+    rw (le-ltb a.room room (omega arith), sound c)
 
 pub returns-then-not-stands : goal.returns-then-not-stands
 returns-then-not-stands c =

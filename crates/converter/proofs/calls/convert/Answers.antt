@@ -45,7 +45,7 @@ pub bounds-old-0 : goal.bounds-old-0
 bounds-old-0 c = omega (arith, (facts (goal.at.bounds-old-0 c).Else-number-ne0).header)
 
 pub overflow_cast-n : goal.overflow_cast-n
-overflow_cast-n c = omega (arith, c.shared_slice_known-2-1.given 0)
+overflow_cast-n c = omega (arith, c.type_inv.old 0)
 
 pub read_node-requires : goal.read_node-requires
 read_node-requires c = (facts (goal.at.read_node-requires c).Else-number-ne0).header
@@ -54,7 +54,7 @@ pub put_node-requires : goal.put_node-requires
 unfolding node_of state_of
 put_node-requires c =
     let there = (goal.at.put_node-requires c).Else-number-ne0 in
-    let bytes = c.shared_slice_known-2-1.given in
+    let bytes = c.type_inv.old in
     rw c.read_node.ensures
     (record {
       inside = omega (arith, (ready there).room);

@@ -27,13 +27,13 @@ pub bounds-old-0 : goal.bounds-old-0
 bounds-old-0 c = omega (arith, (facts (goal.at.bounds-old-0 c).Else-not-is_sound_old).header)
 
 pub overflow_cast-n : goal.overflow_cast-n
-overflow_cast-n c = omega (arith, c.shared_slice_known-2-1.given 0)
+overflow_cast-n c = omega (arith, c.type_inv.old 0)
 
 pub overflow_mul-n : goal.overflow_mul-n
-overflow_mul-n c = omega (arith, c.shared_slice_known-2-1.given 0)
+overflow_mul-n c = omega (arith, c.type_inv.old 0)
 
 pub overflow_add-n : goal.overflow_add-n
-overflow_add-n c = omega (arith, c.shared_slice_known-2-1.given 0)
+overflow_add-n c = omega (arith, c.type_inv.old 0)
 
 pub returns-then-room-n : goal.returns-then-room-n
 unfolding conversion_number

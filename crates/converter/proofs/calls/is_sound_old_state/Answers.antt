@@ -46,7 +46,7 @@ today : (c : After-read_node-node) →
 unfolding state_of node_of
 today c =
     let old = c.args.old.now in
-    let bytes : Bytes old = λ k. (c.shared_slice_known-1.given k).fits in
+    let bytes : Bytes old = λ k. (c.type_inv.old k).fits in
     sym (judged old bytes)
     ∙ ap (λ (p : Node). sound_state window last_tick (state_with old_layout p old)) (sym c.read_node-node.ensures)
 

@@ -56,7 +56,7 @@ pub find_shared-best-requires : goal.find_shared-best-requires
 find_shared-best-requires c =
     let l = c.loop-left in
     let old = c.args.old.now in
-    let bytes : Bytes old = λ k. (c.shared_slice_known-1.given k).fits in (
+    let bytes : Bytes old = λ k. (c.type_inv.old k).fits in (
       omega arith,
       one_word old (l.at + c.old_place-place.result) c.read_old_set.result bytes c.read_old_set.ensures,
     )

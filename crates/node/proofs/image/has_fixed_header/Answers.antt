@@ -46,10 +46,10 @@ sum-none (suc x) y z =
     ∙ sym (ap (λ (q : Bool). q && (eqb y 0 && eqb z 0)) (ne_eqb (suc x) 0 (λ e. omega arith)))
 
 pub overflow_cast-b : goal.overflow_cast-b
-overflow_cast-b c = omega (arith, c.shared_slice_known-2-1.given 0)
+overflow_cast-b c = omega (arith, c.type_inv.b 0)
 
 pub size-size-requires : goal.size-size-requires
-size-size-requires c = omega (arith, c.shared_slice_known-2-1.given 0)
+size-size-requires c = omega (arith, c.type_inv.b 0)
 
 pub returns-then-b-layout : goal.returns-then-b-layout
 unfolding fixed_header

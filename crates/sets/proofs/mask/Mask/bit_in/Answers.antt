@@ -19,7 +19,7 @@ unfolding bit
 returns-then-d-lt-WORD c =
     let a = c.args in
     let b = a.b.now in
-    let low = field_lt word_bytes b (a.i + word_bytes) (λ k. (c.shared_slice_known-1.given k).fits) in (
+    let low = field_lt word_bytes b (a.i + word_bytes) (λ k. (c.type_inv.b k).fits) in (
       ap (λ (x : ℕ). bit x a.d) c.long.ensures
           ∙ sym (bit_in_low word_bits (field word_bytes b a.i) low a.d (omega arith))
           ∙ sym (ap (λ (x : ℕ). bit x a.d) (words b a.i)),
@@ -31,7 +31,7 @@ unfolding bit
 returns-else-d-lt-WORD c =
     let a = c.args in
     let b = a.b.now in
-    let low = field_lt word_bytes b (a.i + word_bytes) (λ k. (c.shared_slice_known-1.given k).fits) in (
+    let low = field_lt word_bytes b (a.i + word_bytes) (λ k. (c.type_inv.b k).fits) in (
       ap (λ (x : ℕ). bit x (a.d - word_bits)) c.long-else-d-lt-WORD.ensures
           ∙ sym (bit_in_high word_bits (field word_bytes b a.i) low a.d (omega arith))
           ∙ sym (ap (λ (x : ℕ). bit x a.d) (words b a.i)),

@@ -3,7 +3,7 @@
 -- Assumes nothing.
 use mathlib.Core.Path.{◌≡◌, refl}
 use mathlib.Core.Bool.{true, false}
-use mathlib.Core.List.{List, [], ◌∷◌, Permᴰ}
+use mathlib.Core.List.{[], ◌∷◌, Permᴰ}
 use Rattle.fields.specs.Kind.{INIT, ECHO}
 use Rattle.sets.specs.Ticks.{empty, bit, holds}
 use Rattle.evidence.specs.Early.{decided_as, decide}

@@ -31,14 +31,13 @@ pub loop-left-preserved : goal.loop-left-preserved
 loop-left-preserved c =
     let a = c.args in
     let l = c.loop-left in
-    let first = c in
     let echo =
-    sym (first.is_proper_set.ensures ∙ ap (proper_set a.w a.last) first.read_set.ensures)
+    sym (c.is_proper_set.ensures ∙ ap (proper_set a.w a.last) c.read_set.ensures)
     ∙ c.if-not-is_proper_set.false in
     let init =
     sym (c.is_proper_set-in-loop-left.ensures ∙ ap (proper_set a.w a.last) c.read_set-in-loop-left.ensures)
     ∙ c.if-not-is_proper_set-2.false in
-    let some = first.loop-left-test.true in
+    let some = c.loop-left-test.true in
     (l.invariant.0 ∙ proper_both mask_bytes l.left a.b.now l.at a.w a.last some echo init, omega arith)
 
 pub returns : goal.returns

@@ -11,79 +11,58 @@ use Rattle.evidence.specs.Holders.{found_by, place_of}
 use Rattle.evidence.specs.Rows.{row_bytes, rows_at, set_at, put_set, put_rows}
 use Rattle.evidence.proofs.Credits.{credit_at, credit_none, place_none, place_le}
 use Rattle.evidence.proofs.Layouts.{put_rows_lem}
+use Rattle.evidence.proofs.rows.credit_row.Goals.{In-At}
 use Rattle.evidence.proofs.rows.credit_row.Goals as goal
 
+-- the row was found at place k, which is one of the n
+placed : (c : In-At) →
+    let a = c.args in
+    place_of a.serial (rows_at mask_bytes a.n a.b.now a.i) ≡ suc c.in-At.k
+placed c = sym c.find_row.ensures ∙ ap found_by c.in-At.is
+
+room : (c : In-At) →
+    let a = c.args in
+    a.i + row_bytes * c.in-At.k + row_bytes ≤ length a.b.now
+room c =
+    let a = c.args in
+    omega (arith, placed c, place_le a.serial mask_bytes a.n a.b.now a.i, c.requires.inside)
+
 pub overflow_mul-at : goal.overflow_mul-at
-overflow_mul-at c =
-    let placed : let a = c.args in place_of a.serial (rows_at mask_bytes a.n a.b.now a.i) ≡ suc c.in-At.k =
-    sym c.find_row.ensures ∙ ap found_by c.in-At.is in
-    let room : let a = c.args in a.i + row_bytes * c.in-At.k + row_bytes ≤ length a.b.now =
-    let start = c in
-    let a = start.args in
-    omega (arith, placed, place_le a.serial mask_bytes a.n a.b.now a.i, start.requires.inside) in
-    omega (arith, room)
+overflow_mul-at c = omega (arith, room c)
 
 pub overflow_add-at : goal.overflow_add-at
-overflow_add-at c =
-    let placed : let a = c.args in place_of a.serial (rows_at mask_bytes a.n a.b.now a.i) ≡ suc c.in-At.k =
-    sym c.find_row.ensures ∙ ap found_by c.in-At.is in
-    let room : let a = c.args in a.i + row_bytes * c.in-At.k + row_bytes ≤ length a.b.now =
-    let start = c in
-    let a = start.args in
-    omega (arith, placed, place_le a.serial mask_bytes a.n a.b.now a.i, start.requires.inside) in
-    omega (arith, room)
+overflow_add-at c = omega (arith, room c)
 
 pub overflow_add-at-in-At : goal.overflow_add-at-in-At
 overflow_add-at-in-At c =
-    let placed : let a = c.args in place_of a.serial (rows_at mask_bytes a.n a.b.now a.i) ≡ suc c.in-At.k =
-    sym c.find_row.ensures ∙ ap found_by c.in-At.is in
-    let room : let a = c.args in a.i + row_bytes * c.in-At.k + row_bytes ≤ length a.b.now =
-    let start = c in
-    let a = start.args in
-    omega (arith, placed, place_le a.serial mask_bytes a.n a.b.now a.i, start.requires.inside) in
-    omega (arith, room, c.set_place.ensures.1)
+    let row = (goal.at.overflow_add-at-in-At c).In-At in
+    omega (arith, room row, c.set_place.ensures.1)
 
 pub read_set-requires : goal.read_set-requires
 read_set-requires c =
-    let placed : let a = c.args in place_of a.serial (rows_at mask_bytes a.n a.b.now a.i) ≡ suc c.in-At.k =
-    sym c.find_row.ensures ∙ ap found_by c.in-At.is in
-    let room : let a = c.args in a.i + row_bytes * c.in-At.k + row_bytes ≤ length a.b.now =
-    let start = c in
-    let a = start.args in
-    omega (arith, placed, place_le a.serial mask_bytes a.n a.b.now a.i, start.requires.inside) in
-    omega (arith, room, c.set_place.ensures.1)
+    let row = (goal.at.read_set-requires c).In-At in
+    omega (arith, room row, c.set_place.ensures.1)
 
 pub store_set-requires : goal.store_set-requires
 store_set-requires c =
-    let placed : let a = c.args in place_of a.serial (rows_at mask_bytes a.n a.b.now a.i) ≡ suc c.in-At.k =
-    sym c.find_row.ensures ∙ ap found_by c.in-At.is in
-    let room : let a = c.args in a.i + row_bytes * c.in-At.k + row_bytes ≤ length a.b.now =
-    let start = c in
-    let a = start.args in
-    omega (arith, placed, place_le a.serial mask_bytes a.n a.b.now a.i, start.requires.inside) in
-    let placed = c in
-    omega (arith, room, placed.set_place.ensures.1)
+    let row = (goal.at.store_set-requires c).In-At in
+    omega (arith, room row, c.set_place.ensures.1)
 
 pub returns-in-At : goal.returns-in-At
 returns-in-At c =
-    let placed : let a = c.args in place_of a.serial (rows_at mask_bytes a.n a.b.now a.i) ≡ suc c.in-At.k =
-    sym c.find_row.ensures ∙ ap found_by c.in-At.is in
-    let bytes : let d = c in Bytes d.args.b.now =
-    λ i. let d = c in
-    (d.slice_known-1.given i).fits in
-    let d = c in
-    let start = d in
-    let a = start.args in
+    let found = (goal.at.returns-in-At c).In-At in
+    let a = c.args in
     let b = a.b.now in
-    let k = d.in-At.k in
+    let k = c.in-At.k in
     let row = a.i + row_bytes * k in
     let place = c.set_place in
+    let bytes : Bytes b = λ i. (c.slice_known-1.given i).fits in
     let read = c.read_set.ensures in
     let after = c.after-after.ensures ∙ ap (λ (s : Held). add a.w a.kind s a.j) read in
     c.store_set.ensures
     ∙ ap (put_set mask_bytes b (row + place.result)) after
     ∙ ap (λ (p : ℕ). put_set mask_bytes b (row + p) (add a.w a.kind (set_at mask_bytes b (row + p)) a.j)) place.ensures.0
-    ∙ sym (credit_at mask_bytes a.w a.serial a.kind a.j a.n b a.i k (bytes) (placed) start.requires.once)
+    ∙ sym (credit_at mask_bytes a.w a.serial a.kind a.j a.n b a.i k bytes (placed found) c.requires.once)
 
 pub returns-in_default : goal.returns-in_default
 returns-in_default c =

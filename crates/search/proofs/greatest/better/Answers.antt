@@ -1,7 +1,6 @@
 -- `greatest::better` meets its contract: the search that is left finds what the whole search would, where that is better than the
 -- best so far.
 use mathlib.Core.Path.{◌≡◌, sym, ap, ap₂, ◌∙◌}
-use mathlib.Core.Logic.{⊎_elim}
 use mathlib.Core.Bool.{Bool, false, ◌&&◌, and-false}
 use mathlib.Core.List.{List}
 use Prim.Native.Nat.{ℕ, ◌+◌, ◌-◌, ◌≤◌, ◌<◌, max}
@@ -15,7 +14,7 @@ use Rattle.evidence.specs.Holders.{holders, first_down, shared, best_of}
 use Rattle.evidence.specs.Rows.{rows_at}
 use Rattle.evidence.proofs.Earliest.{full_told}
 use Rattle.evidence.proofs.Down.{down_stop, down_end, down_hit, down_miss}
-use Rattle.search.proofs.greatest.better.Goals.{then-holds-eq1+else-decide, else-holds-eq1}
+use Rattle.search.proofs.greatest.better.Goals.{Joined-holds-eq1, then-holds-eq1+else-decide, else-holds-eq1}
 use Rattle.search.proofs.greatest.better.Goals as goal
 
 -- the ticks that the search looks for, and the search over c of them from x down
@@ -57,9 +56,11 @@ returns-then-decide c =
     let hit = down_hit goes a.best l.left x (omega arith) (omega arith) (ap₂ (λ (p q : Bool). p && q) held enough) in
     omega (arith, l.invariant.0, hit, ap (first_down goes a.best l.left) here)
 
-pub loop-left-preserved : goal.loop-left-preserved
-loop-left-preserved c =
-    let missed : let a = c.args in wanted a.b.now a.i a.n a.kind a.w a.m a.s (c.less-x.result - 1) ≡ false =
+-- the tick in hand is not it: the set does not hold it, or too few rows do
+missed : (c : Joined-holds-eq1) →
+    let a = c.args in
+    wanted a.b.now a.i a.n a.kind a.w a.m a.s (c.less-x.result - 1) ≡ false
+missed c =
     let a = c.args in
     let t = c.less-x.result - 1 in
     let rows = rows_at mask_bytes a.n a.b.now a.i in
@@ -70,14 +71,17 @@ loop-left-preserved c =
       | else-holds-eq1 w ↦
           ap (λ (p : Bool). p && leb a.m (holders a.w a.kind t rows))
           (ne_eqb (holds a.w (held_by a.s) t) 1 (λ e. w.if-holds-eq1.false (c.holds.ensures.0 ∙ e)))
-    ] in
+    ]
+
+pub loop-left-preserved : goal.loop-left-preserved
+loop-left-preserved c =
     let a = c.args in
     let goes = wanted a.b.now a.i a.n a.kind a.w a.m a.s in
     let l = c.loop-left in
     let x = c.less-x.result in
     let here : x ≡ a.s.top + 1 - (a.w - l.left) = c.less-x.ensures in
     let below = one_below x a.s.top a.w l.left (omega arith) l.invariant.1 here in
-    let miss = down_miss goes a.best l.left x (omega arith) (omega arith) (missed) in
+    let miss = down_miss goes a.best l.left x (omega arith) (omega arith) (missed c) in
     let from = ap (first_down goes a.best l.left) here in
     let on = ap (first_down goes a.best (l.left - 1)) below in
     (omega (arith, l.invariant.0, miss, from, on), omega arith)

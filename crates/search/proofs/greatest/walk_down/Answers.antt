@@ -1,20 +1,20 @@
 -- `greatest::walk_down` meets its contract: look by look no tick that enough rows hold is left above x.
 use borrow.Author.Rules.{rules}
 use mathlib.Core.Path.{◌≡◌, sym, ap₂, subst, ◌∙◌}
-use mathlib.Core.Logic.{⊎_elim}
+use mathlib.Core.List.{List}
 use Prim.Native.Nat.{ℕ, ◌+◌, ◌-◌, ◌≤◌, max, min}
 use native.Mathlib.Omega.{arith}
 use Rattle.fields.specs.Field.{Bytes}
-use Rattle.sets.specs.Sets.{mask_bytes, mask_by}
+use Rattle.sets.specs.Sets.{mask_bytes}
 use Rattle.evidence.specs.Holders.{best_of}
-use Rattle.evidence.specs.Rows.{rows_at}
+use Rattle.evidence.specs.Rows.{Row, rows_at}
 use Rattle.evidence.proofs.Columns.{holders_far}
 use Rattle.search.specs.Order.{places, reaching}
 use Rattle.search.specs.Tops.{CoveredFrom}
 use Rattle.search.specs.Scan.{view}
 use Rattle.search.proofs.Found.{NoneFrom, none_covered, none_left, looked_at, Looked, none_seen, none_better, found}
 use Rattle.search.proofs.Orders.{reach_down}
-use Rattle.search.proofs.greatest.walk_down.Goals.{then-held-ne0+else-low-best, else-held-ne0}
+use Rattle.search.proofs.greatest.walk_down.Goals.{After-pass-ended, After-scan-held, then-held-ne0+else-low-best, else-held-ne0}
 use Rattle.search.proofs.greatest.walk_down.Goals as goal
 
 pub loop-x-init : goal.loop-x-init
@@ -26,27 +26,35 @@ loop-x-init c =
       omega arith,
     )
 
-pub covered_from-from-requires : goal.covered_from-from-requires
-covered_from-from-requires c =
-    let passed : let a = c.args in c.pass-ended.result ≡ reaching a.kind (rows_at mask_bytes (min a.n places) a.b.now a.i) (c.loop-x.x - 1 + a.w) =
+-- those that have ended above the tick in hand are told by the order
+passed : (c : After-pass-ended) →
+    let a = c.args in
+    c.pass-ended.result ≡ reaching a.kind (rows_at mask_bytes (min a.n places) a.b.now a.i) (c.loop-x.x - 1 + a.w)
+passed c =
     let a = c.args in
     let many = min a.n places in
     let count = reaching a.kind (rows_at mask_bytes many a.b.now a.i) in
-    c.pass-ended.ensures count many c.requires.order c.loop-x.invariant.2 in
+    c.pass-ended.ensures count many c.requires.order c.loop-x.invariant.2
+
+-- and no fewer have ended above a tick further down
+behind : (c : After-pass-ended) (z : ℕ) → z ≤ c.loop-x.x →
+    let a = c.args in
+    c.pass-ended.result ≤ reaching a.kind (rows_at mask_bytes (min a.n places) a.b.now a.i) (z - 1 + a.w)
+behind c z p =
+    let a = c.args in
+    let rows = rows_at mask_bytes (min a.n places) a.b.now a.i in
+    omega (arith, passed c, reach_down a.kind (z - 1 + a.w) (c.loop-x.x - 1 + a.w) rows (omega arith))
+
+pub covered_from-from-requires : goal.covered_from-from-requires
+covered_from-from-requires c =
     let order = c.requires.order in
-    (omega arith, omega arith, record { some = omega arith; order = order; passed = passed })
+    (omega arith, omega arith, record { some = omega arith; order = order; passed = passed c })
+
+-- ---- too few windows cover the tick in hand
 
 pub loop-x-preserved-then-from-x : goal.loop-x-preserved-then-from-x
 loop-x-preserved-then-from-x c =
-    let passed : let a = c.args in c.pass-ended.result ≡ reaching a.kind (rows_at mask_bytes (min a.n places) a.b.now a.i) (c.loop-x.x - 1 + a.w) =
-    let a = c.args in
-    let many = min a.n places in
-    let count = reaching a.kind (rows_at mask_bytes many a.b.now a.i) in
-    c.pass-ended.ensures count many c.requires.order c.loop-x.invariant.2 in
-    let behind : (z : ℕ) → z ≤ c.loop-x.x → let a = c.args in c.pass-ended.result ≤ reaching a.kind (rows_at mask_bytes (min a.n places) a.b.now a.i) (z - 1 + a.w) =
-    λ z p. let a = c.args in
-    let rows = rows_at mask_bytes (min a.n places) a.b.now a.i in
-    omega (arith, passed, reach_down a.kind (z - 1 + a.w) (c.loop-x.x - 1 + a.w) rows (omega arith)) in
+    let pass = (goal.at.loop-x-preserved-then-from-x c).After-pass-ended in
     let a = c.args in
     let rows = rows_at mask_bytes a.n a.b.now a.i in
     let l = c.loop-x in
@@ -55,28 +63,41 @@ loop-x-preserved-then-from-x c =
     let covered = subst (λ (k : ℕ). CoveredFrom a.w a.kind k l.x rows from.result) enough from.ensures in (
       none_covered a.w a.kind a.m a.low rows l.x from.result l.invariant.0 covered,
       omega arith,
-      behind from.result (omega arith),
+      behind pass from.result (omega arith),
     )
 
-pub returns-then-low-best : goal.returns-then-low-best
-returns-then-low-best c =
-    let looked : let a = c.args in let rows = rows_at mask_bytes a.n a.b.now a.i in Looked a.w a.kind a.m a.low rows c.loop-x.x c.scan-held.result =
+-- ---- enough do: their masks are looked at
+
+-- what the look shows; the counters are not asked for more than is enough
+looked : (c : After-scan-held) →
+    let a = c.args in
+    let rows = rows_at mask_bytes a.n a.b.now a.i in
+    Looked a.w a.kind a.m a.low rows c.loop-x.x c.scan-held.result
+looked c =
     record {
       above = c.loop-x.invariant.0;
       positive = omega arith;
       small = search rules;
       shown = λ t p q r. c.scan-held.ensures t p q (omega arith);
-    } in
-    let best : let a = c.args in let rows = rows_at mask_bytes a.n a.b.now a.i in let x = c.loop-x.x in let held = c.scan-held.result in c.better-best.result ≡ max a.low (best_of a.w a.kind (max 1 a.m) a.low rows (looked_at x held)) =
+    }
+
+-- what is found among the ticks looked at
+best : (w kind m low x : ℕ) (rows : List Row) {enough mask held most : ℕ}
+    → enough ≡ max 1 m
+    → mask ≡ held
+    → most ≡ max low (best_of w kind enough low rows (looked_at x mask))
+    → most ≡ max low (best_of w kind (max 1 m) low rows (looked_at x held))
+best w kind m low x rows enough one_word told =
+    told ∙ ap₂ (λ (n mask : ℕ). max low (best_of w kind n low rows (looked_at x mask))) enough one_word
+
+pub returns-then-low-best : goal.returns-then-low-best
+returns-then-low-best c =
+    let look = (goal.at.returns-then-low-best c).After-scan-held in
     let a = c.args in
     let rows = rows_at mask_bytes a.n a.b.now a.i in
-    let x = c.loop-x.x in
-    let enough = c.at_least_one-enough in
-    let found : ℕ → ℕ → ℕ = λ m mask. max a.low (best_of a.w a.kind m a.low rows (looked_at x mask)) in
-    let one_word = c.of in
-    ◌∙◌ {b = found enough.result (mask_by one_word.result)} c.better-best.ensures (ap₂ found enough.ensures one_word.ensures) in
     let l = c.loop-x in
-    let is = found (looked) c.better-best.result (best) c.if-low-best.true in
+    let most = best a.w a.kind a.m a.low l.x rows c.at_least_one-enough.ensures c.of.ensures c.better-best.ensures in
+    let is = found (looked look) c.better-best.result most c.if-low-best.true in
     (is.0, omega (arith, is.1, l.invariant.1))
 
 -- the window that enough rows have the tick in hand in is not empty
@@ -87,37 +108,22 @@ loop-x-smaller c =
 
 pub loop-x-preserved : goal.loop-x-preserved
 loop-x-preserved c =
-    let passed : let a = c.args in c.pass-ended.result ≡ reaching a.kind (rows_at mask_bytes (min a.n places) a.b.now a.i) (c.loop-x.x - 1 + a.w) =
+    let at = goal.at.loop-x-preserved c in
+    let look = looked at.After-scan-held in
     let a = c.args in
-    let many = min a.n places in
-    let count = reaching a.kind (rows_at mask_bytes many a.b.now a.i) in
-    c.pass-ended.ensures count many c.requires.order c.loop-x.invariant.2 in
-    let behind : (z : ℕ) → z ≤ c.loop-x.x → let a = c.args in c.pass-ended.result ≤ reaching a.kind (rows_at mask_bytes (min a.n places) a.b.now a.i) (z - 1 + a.w) =
-    λ z p. let a = c.args in
-    let rows = rows_at mask_bytes (min a.n places) a.b.now a.i in
-    omega (arith, passed, reach_down a.kind (z - 1 + a.w) (c.loop-x.x - 1 + a.w) rows (omega arith)) in
-    let looked : let a = c.args in let rows = rows_at mask_bytes a.n a.b.now a.i in Looked a.w a.kind a.m a.low rows c.loop-x.x c.scan-held.result =
-    record {
-      above = c.loop-x.invariant.0;
-      positive = omega arith;
-      small = search rules;
-      shown = λ t p q r. c.scan-held.ensures t p q (omega arith);
-    } in
-    let none : let a = c.args in NoneFrom a.w a.kind a.m a.low (rows_at mask_bytes a.n a.b.now a.i) (c.loop-x.x - view a.w) =
+    let rows = rows_at mask_bytes a.n a.b.now a.i in
+    let x = c.loop-x.x in
+    let enough = c.at_least_one-enough.ensures in
+    let none : NoneFrom a.w a.kind a.m a.low rows (x - view a.w) =
     elim c.if-held-ne0.branch [
       | then-held-ne0+else-low-best w ↦
-          let a = c.args in
-          let rows = rows_at mask_bytes a.n a.b.now a.i in
-          let x = c.loop-x.x in
-          let enough = c.at_least_one-enough in
-          let found : ℕ → ℕ → ℕ = λ m mask. max a.low (best_of a.w a.kind m a.low rows (looked_at x mask)) in
-          let best = ◌∙◌ {b = found enough.result (mask_by w.of.result)} w.better-best.ensures (ap₂ found enough.ensures w.of.ensures) in
-          none_better looked w.better-best.result best w.if-low-best.false
-      | else-held-ne0 w ↦ none_seen looked (omega arith)
+          let most = best a.w a.kind a.m a.low x rows enough w.of.ensures w.better-best.ensures in
+          none_better look w.better-best.result most w.if-low-best.false
+      | else-held-ne0 w ↦ none_seen look (omega arith)
     ] in (
       λ t p. none t (omega arith),
       omega arith,
-      behind c.less-x.result (omega arith),
+      behind at.After-pass-ended c.less-x.result (omega arith),
     )
 
 pub returns : goal.returns

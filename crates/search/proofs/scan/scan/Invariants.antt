@@ -1,5 +1,5 @@
 -- `scan::scan` meets its contract: row by row the counters go on, and past the last row they tell of all rows.
-use Prim.Native.Nat.{◌+◌, ◌-◌, ◌*◌, ◌≤◌}
+use Prim.Native.Nat.{◌+◌, ◌*◌, ◌≤◌}
 use lib.ListN.{length}
 use Rattle.sets.specs.Sets.{mask_bytes}
 use Rattle.evidence.specs.Rows.{row_bytes, rows_at}

@@ -1,6 +1,5 @@
 -- `tops::count_reaching` meets its contract: what is counted so far and the tops among the rows left make up all.
 use borrow.Author.Tests.{le-leb, lt-leb}
-use mathlib.Core.Logic.{⊎_elim}
 use Prim.Native.Nat.{◌+◌}
 use native.Mathlib.Omega.{arith}
 use lib.Dec.{leb}

@@ -1,6 +1,5 @@
 -- `tops::look_at_tops` meets its contract: what is counted so far and the tops among the rows left make up all, and so does the
 -- greatest of the tops below.
-use mathlib.Core.Logic.{⊎_elim}
 use native.Mathlib.Omega.{arith}
 use Rattle.sets.specs.Sets.{mask_bytes}
 use Rattle.search.specs.Tops.{covers}

@@ -1,22 +1,20 @@
 -- Laws of a node that settles, firing by firing: what is said so far with what settling says from here on is what settling says from the
 -- start.
-use borrow.Author.Rules.{rules}
-use mathlib.Core.Path.{◌≡◌, refl, sym, ap, ◌∙◌, subst}
+use mathlib.Core.Path.{◌≡◌, refl, sym, ap, ◌∙◌}
 use mathlib.Core.Bool.{false}
 use mathlib.Core.List.{List, ◌++◌}
-use Prim.Native.Nat.{ℕ, suc, ◌+◌, ◌-◌, ◌*◌, ◌≤◌}
+use Prim.Native.Nat.{ℕ, suc, ◌+◌, ◌*◌, ◌≤◌}
 use native.Mathlib.Nat.{add-zero}
 use native.Mathlib.Omega.{arith}
 use lib.ListN.{length, length-append}
-use Rattle.sets.specs.Sets.{mask_bytes}
-use Rattle.evidence.specs.Rows.{Row, rows_at}
+use Rattle.evidence.specs.Rows.{Row}
 use Rattle.rules.specs.Describe.{window, last_tick, most_firings}
 use Rattle.rules.specs.Record.{record_size, put_records}
 use Rattle.rules.specs.Rules.{Settled, still, first_rule, at_rest, fired, said, settle}
-use Rattle.rules.specs.Steps.{rows_from, CanFire, SettledAs}
+use Rattle.rules.specs.Steps.{SettledAs}
 use Rattle.rules.specs.declared.node.Node.{Node}
 use Rattle.rules.specs.declared.node.Rule.{Rule}
-use Rattle.rules.proofs.Firing.{can_fire, rest_true, said_few, Same, same_trans, fired_same, settle_none, settle_rest, settle_fires}
+use Rattle.rules.proofs.Firing.{said_few, Same, same_trans, fired_same, settle_fires}
 use Rattle.rules.proofs.Records.{length_put_records, put_records_none, put_records_behind}
 
 -- at most c firings of p over these rows

@@ -15,7 +15,49 @@ use Rattle.rules.specs.Describe.{window, last_tick}
 use Rattle.rules.specs.Steps.{rows_from, state_from, SentAs, SettledAs, DeliveredAs}
 use Rattle.rules.specs.declared.node.Next.{Next}
 use Rattle.rules.proofs.Records.{sent_then}
+use Rattle.rules.proofs.node.Node.deliver.Goals.{After-credit_row, After-answer-start}
 use Rattle.rules.proofs.node.Node.deliver.Goals as goal
+
+-- the bytes that the credit left: the frame stands in the port's row
+stored : (c : After-credit_row) →
+    let a = c.args in
+    let rows = credit window a.port a.frame.kind a.frame.tick (rows_from a.self a.b.now a.i) in
+    c.credit_row.new.b ≡ put_rows mask_bytes a.b.now a.i rows
+stored c = c.credit_row.ensures
+
+-- the rows that the credit left
+kept : (c : After-credit_row) →
+    let a = c.args in
+    let rows = credit window a.port a.frame.kind a.frame.tick (rows_from a.self a.b.now a.i) in
+    rows_from a.self c.credit_row.new.b a.i ≡ rows
+kept c =
+    let a = c.args in
+    rw (stored c)
+    (credit_read_back mask_bytes mask_bits window refl (omega arith) (omega arith) a.port a.frame.kind a.frame.tick
+    a.self.lines a.b.now a.i (λ k. (c.slice_known-1.given k).fits)
+    (omega (arith, c.well_formed.1.1.1.1.0)) c.requires.rows.inside)
+
+-- they are those that the frame left, of a node that was at rest
+pub rule_after-first-requires : goal.rule_after-first-requires
+rule_after-first-requires c =
+    let credits = (goal.at.rule_after-first-requires c).After-credit_row in
+    let a = c.args in (
+      search rules,
+      record {
+        before = rows_from a.self a.b.now a.i;
+        rest = c.requires.rest;
+        port = a.port;
+        kind = a.frame.kind;
+        which = refl;
+        after = kept credits;
+      },
+    )
+
+-- the count of answers is the delivery's
+answered : (c : After-answer-start) →
+    let a = c.args in
+    c.answer-start.result ≡ 0 + length (answer a.self a.port a.frame)
+answered c = omega arith
 
 -- a credit, an answer and settling are a delivery
 delivers : (s : State) (port : ℕ) (frame : Frame) {b : List ℕ} {i : ℕ} {out mid after image : List ℕ} {start : ℕ} {r : Next}
@@ -36,50 +78,13 @@ delivers s port frame rows first h =
       allowed = h.allowed;
     }
 
--- they are those that the frame left, of a node that was at rest
-pub rule_after-first-requires : goal.rule_after-first-requires
-rule_after-first-requires c =
-    let stored : let a = c.args in let rows = credit window a.port a.frame.kind a.frame.tick (rows_from a.self a.b.now a.i) in c.credit_row.new.b ≡ put_rows mask_bytes a.b.now a.i rows =
-    c.credit_row.ensures in
-    let kept : let a = c.args in let rows = credit window a.port a.frame.kind a.frame.tick (rows_from a.self a.b.now a.i) in rows_from a.self c.credit_row.new.b a.i ≡ rows =
-    let start = c in
-    let a = start.args in
-    rw (stored)
-    (credit_read_back mask_bytes mask_bits window refl (omega arith) (omega arith) a.port a.frame.kind a.frame.tick
-    a.self.lines a.b.now a.i (λ k. (c.slice_known-1.given k).fits)
-    (omega (arith, start.well_formed.1.1.1.1.0)) start.requires.rows.inside) in
-    let credits = c in
-    let start = credits in
-    let a = start.args in (
-      search rules,
-      record {
-        before = rows_from a.self a.b.now a.i;
-        rest = start.requires.rest;
-        port = a.port;
-        kind = a.frame.kind;
-        which = refl;
-        after = kept;
-      },
-    )
-
 pub returns : goal.returns
 unfolding settled
 returns c =
-    let stored : let a = c.args in let rows = credit window a.port a.frame.kind a.frame.tick (rows_from a.self a.b.now a.i) in c.credit_row.new.b ≡ put_rows mask_bytes a.b.now a.i rows =
-    c.credit_row.ensures in
-    let kept : let a = c.args in let rows = credit window a.port a.frame.kind a.frame.tick (rows_from a.self a.b.now a.i) in rows_from a.self c.credit_row.new.b a.i ≡ rows =
-    let start = c in
-    let a = start.args in
-    rw (stored)
-    (credit_read_back mask_bytes mask_bits window refl (omega arith) (omega arith) a.port a.frame.kind a.frame.tick
-    a.self.lines a.b.now a.i (λ k. (c.slice_known-1.given k).fits)
-    (omega (arith, start.well_formed.1.1.1.1.0)) start.requires.rows.inside) in
-    let answered : let a = c.args in c.answer-start.result ≡ 0 + length (answer a.self a.port a.frame) =
-    omega arith in
-    let answers = c in
-    let credits = answers in
-    let a = credits.args in
-    let sent = answers.answer-start.ensures in
-    delivers (state_from a.self a.b.now a.i) a.port a.frame (stored)
-    (record { records = answered; few = sent.few; bytes = sent.bytes })
-    (rw (kept) at c.settle.ensures)
+    let at = goal.at.returns c in
+    let credits = at.After-credit_row in
+    let a = c.args in
+    let sent = c.answer-start.ensures in
+    delivers (state_from a.self a.b.now a.i) a.port a.frame (stored credits)
+    (record { records = answered at.After-answer-start; few = sent.few; bytes = sent.bytes })
+    (rw (kept credits) at c.settle.ensures)

@@ -2,7 +2,7 @@
 -- down, is the greatest.
 use mathlib.Core.Path.{◌≡◌, refl, sym, ◌∙◌, subst}
 use mathlib.Core.Bool.{false≢true}
-use Prim.Native.Nat.{ℕ, suc, ◌+◌, ◌≤◌, ◌<◌}
+use Prim.Native.Nat.{ℕ, suc, ◌+◌, ◌≤◌}
 use native.Mathlib.Decide.{ℕ_discrete}
 use native.Mathlib.Omega.{arith}
 use borrow.Author.Tests.{leb-true, le-leb}
@@ -15,7 +15,7 @@ use Rattle.rules.specs.Describe.{window, last_tick}
 use Rattle.rules.specs.Rules.{jump_to}
 use Rattle.rules.specs.Steps.{rows_from}
 use Rattle.rules.proofs.AfterFrame.{calm}
-use Rattle.rules.proofs.node.Node.jump_near.Invariants.{Looked}
+use Rattle.rules.proofs.node.Node.jump_near.Goals.{After-decide}
 use Rattle.rules.proofs.node.Node.jump_near.Goals as goal
 
 pub loop-left-init : goal.loop-left-init
@@ -31,15 +31,21 @@ returns-then-l-next c =
     greatest_none window ECHO _ _ _ (λ t q r s. omega (arith, l.invariant.below t (omega arith) r)) in
     rw none refl
 
-pub returns-then-decide : goal.returns-then-decide
-returns-then-decide c =
-    let told : let a = c.args in let l = c.loop-left in leb (a.self.faults + 1) (holders window ECHO l.l (rows_from a.self a.b.now a.i)) ≡ c.decide.result.held =
-    let a = c.args in
-    full_told window ECHO c.loop-left.l (a.self.faults + 1) (rows_from a.self a.b.now a.i)
-    c.decide.ensures in
+-- whether tick l is held by enough is what was told
+told : (c : After-decide) →
     let a = c.args in
     let l = c.loop-left in
-    let held = leb-true _ _ (told ∙ c.if-decide.true) in
+    leb (a.self.faults + 1) (holders window ECHO l.l (rows_from a.self a.b.now a.i)) ≡ c.decide.result.held
+told c =
+    let a = c.args in
+    full_told window ECHO c.loop-left.l (a.self.faults + 1) (rows_from a.self a.b.now a.i) c.decide.ensures
+
+pub returns-then-decide : goal.returns-then-decide
+returns-then-decide c =
+    let asked = (goal.at.returns-then-decide c).After-decide in
+    let a = c.args in
+    let l = c.loop-left in
+    let held = leb-true _ _ (told asked ∙ c.if-decide.true) in
     let greatest : jump_to window a.self (rows_from a.self a.b.now a.i) ≡ suc l.l =
     greatest_is window ECHO _ _ _ l.l (omega arith) held (omega arith)
     (λ t q r s. omega (arith, l.invariant.below t (omega arith) r)) in
@@ -47,10 +53,7 @@ returns-then-decide c =
 
 pub loop-left-preserved : goal.loop-left-preserved
 loop-left-preserved c =
-    let told : let a = c.args in let l = c.loop-left in leb (a.self.faults + 1) (holders window ECHO l.l (rows_from a.self a.b.now a.i)) ≡ c.decide.result.held =
-    let a = c.args in
-    full_told window ECHO c.loop-left.l (a.self.faults + 1) (rows_from a.self a.b.now a.i)
-    c.decide.ensures in
+    let asked = (goal.at.loop-left-preserved c).After-decide in
     let a = c.args in
     let rows = rows_from a.self a.b.now a.i in
     let l = c.loop-left in
@@ -59,7 +62,7 @@ loop-left-preserved c =
           elim (ℕ_discrete t l.l) [
             | yes e ↦
                 let held = subst (λ (u : ℕ). a.self.faults + 1 ≤ holders window ECHO u rows) e r in
-                absurd (false≢true (sym c.if-decide.false ∙ sym (told) ∙ le-leb _ _ held))
+                absurd (false≢true (sym c.if-decide.false ∙ sym (told asked) ∙ le-leb _ _ held))
             | no n ↦ omega (arith, l.invariant.below t q r)
           ];
       place = omega (arith, l.invariant.place);
@@ -68,11 +71,10 @@ loop-left-preserved c =
 
 pub returns : goal.returns
 returns c =
-    let start = c in
-    let a = start.args in
+    let a = c.args in
     let l = c.loop-left in
     let none : jump_to window a.self (rows_from a.self a.b.now a.i) ≡ 0 =
     greatest_none window ECHO _ _ _
     (λ t q r s.
-    omega (arith, l.invariant.below t (omega arith) r, l.invariant.place, calm window last_tick start.requires.1 (lit< tt) t q r)) in
+    omega (arith, l.invariant.below t (omega arith) r, l.invariant.place, calm window last_tick c.requires.1 (lit< tt) t q r)) in
     rw none refl

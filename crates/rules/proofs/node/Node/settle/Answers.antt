@@ -1,23 +1,17 @@
 -- `Node::settle` meets its contract: what is said so far with what settling says from here on is what settling says from the start.
 use borrow.Author.Rules.{rules}
 use mathlib.Core.Path.{◌≡◌, refl, sym, ap, ◌∙◌, subst}
-use mathlib.Core.Bool.{false}
-use mathlib.Core.List.{List, ◌++◌}
-use Prim.Native.Nat.{ℕ, suc, ◌+◌, ◌-◌, ◌*◌, ◌≤◌}
-use native.Mathlib.Nat.{add-zero}
+use Prim.Native.Nat.{ℕ, ◌+◌, ◌-◌}
 use native.Mathlib.Omega.{arith}
-use lib.ListN.{length, length-append}
+use lib.ListN.{length}
 use Rattle.sets.specs.Sets.{mask_bytes}
-use Rattle.evidence.specs.Rows.{Row, rows_at}
+use Rattle.evidence.specs.Rows.{rows_at}
 use Rattle.rules.specs.Describe.{window, last_tick, most_firings}
-use Rattle.rules.specs.Record.{record_size, put_records}
-use Rattle.rules.specs.Rules.{Settled, still, first_rule, at_rest, fired, said, settle}
-use Rattle.rules.specs.Steps.{rows_from, CanFire, SettledAs}
-use Rattle.rules.specs.declared.node.Node.{Node}
-use Rattle.rules.specs.declared.node.Rule.{Rule}
-use Rattle.rules.proofs.Firing.{can_fire, rest_true, said_few, Same, same_trans, fired_same, settle_none, settle_rest, settle_fires}
-use Rattle.rules.proofs.Records.{length_put_records, put_records_none, put_records_behind}
-use Rattle.rules.proofs.Settlings.{from, Settling, ended, fires}
+use Rattle.rules.specs.Rules.{first_rule, fired, said}
+use Rattle.rules.specs.Steps.{rows_from, CanFire}
+use Rattle.rules.proofs.Firing.{can_fire, rest_true, Same, same_trans, fired_same, settle_none, settle_rest}
+use Rattle.rules.proofs.Settlings.{from, ended, fires}
+use Rattle.rules.proofs.node.Node.settle.Goals.{In-loop-fired, After-fire-node, After-say-records, After-rule-rule}
 use Rattle.rules.proofs.node.Node.settle.Goals as goal
 
 pub loop-fired-init : goal.loop-fired-init
@@ -45,51 +39,59 @@ returns-then-is_at_rest c =
     let rests = rest_true l.rule (sym c.is_at_rest.ensures ∙ c.if-is_at_rest.true) in
     ended l.invariant (settle_rest window last_tick rows (most_firings - l.fired) l.node (sym l.invariant.first ∙ rests))
 
+-- the rule of a turn can fire
+can : (c : In-loop-fired) → CanFire last_tick c.loop-fired.node c.loop-fired.rule
+can c =
+    let a = c.args in
+    let l = c.loop-fired in
+    subst (CanFire last_tick l.node) (sym l.invariant.first)
+    (can_fire window last_tick (rows_from a.self a.b.now a.i) l.node)
+
 -- by search, which meets it for any rule: that the rule said is the first one shows in `counted`
 pub say-records-requires : goal.say-records-requires
 say-records-requires c =
-    let can : CanFire last_tick c.loop-fired.node c.loop-fired.rule =
-    let a = c.args in
-    let l = c.loop-fired in
-    subst (CanFire last_tick l.node) (sym l.invariant.first)
-    (can_fire window last_tick (rows_from a.self a.b.now a.i) l.node) in
-    search (rules, can)
+    let turn = (goal.at.say-records-requires c).In-loop-fired in
+    search (rules, can turn)
 
 pub fire-node-requires : goal.fire-node-requires
-fire-node-requires c =
-    let can : CanFire last_tick c.loop-fired.node c.loop-fired.rule =
-    let a = c.args in
+fire-node-requires c = can (goal.at.fire-node-requires c).In-loop-fired
+
+-- who the node is stays as it was at the start
+stays : (c : After-fire-node) →
     let l = c.loop-fired in
-    subst (CanFire last_tick l.node) (sym l.invariant.first)
-    (can_fire window last_tick (rows_from a.self a.b.now a.i) l.node) in
-    can
+    Same (fired l.node l.rule) c.args.self
+stays c =
+    let l = c.loop-fired in
+    same_trans (fired_same l.node l.rule) l.invariant.same
 
 pub rule-rule-requires : goal.rule-rule-requires
-rule-rule-requires c =
-    let stays : let a = c.args in let l = c.loop-fired in Same (fired l.node l.rule) a.self =
+rule-rule-requires c = rw c.fire-node.ensures (omega (arith, stays c))
+
+-- the count goes up by what the rule says
+counted : (c : After-say-records) →
     let l = c.loop-fired in
-    same_trans (fired_same l.node l.rule) l.invariant.same in
-    rw c.fire-node.ensures (omega (arith, stays))
+    c.say-records.result ≡ l.records + length (said l.node l.rule)
+counted c = omega arith
+
+-- the next rule is the first that can fire, over the rows as they were at the start
+next : (c : After-rule-rule) →
+    let a = c.args in
+    let l = c.loop-fired in
+    Same (fired l.node l.rule) a.self
+    → c.rule-rule.result ≡ first_rule window last_tick (rows_from a.self a.b.now a.i) (fired l.node l.rule)
+next c same =
+    let a = c.args in
+    let l = c.loop-fired in
+    (rw c.fire-node.ensures at c.rule-rule.ensures)
+    ∙ ap (λ (n : ℕ). first_rule window last_tick (rows_at mask_bytes n a.b.now a.i) (fired l.node l.rule)) same.lines
 
 pub loop-fired-preserved : goal.loop-fired-preserved
 loop-fired-preserved c =
-    let counted : let l = c.loop-fired in c.say-records.result ≡ l.records + length (said l.node l.rule) =
-    omega arith in
-    let stays : let a = c.args in let l = c.loop-fired in Same (fired l.node l.rule) a.self =
+    let at = goal.at.loop-fired-preserved c in
     let l = c.loop-fired in
-    same_trans (fired_same l.node l.rule) l.invariant.same in
-    let next : let fires = c in let a = fires.args in let l = fires.loop-fired in c.rule-rule.result ≡ first_rule window last_tick (rows_from a.self a.b.now a.i) (fired l.node l.rule) =
-    let fires = c in
-    let a = fires.args in
-    let l = fires.loop-fired in
-    (rw fires.fire-node.ensures at c.rule-rule.ensures)
-    ∙ ap (λ (n : ℕ). first_rule window last_tick (rows_at mask_bytes n a.b.now a.i) (fired l.node l.rule)) (stays).lines in
-    let says = c in
-    let rests = says in
-    let l = rests.loop-fired in
-    rw (c.fire-node.ensures, counted, says.say-records.ensures.bytes)
-    (fires l.invariant _ (omega (arith, rests.loop-fired-test.true)) (sym rests.is_at_rest.ensures ∙ says.if-is_at_rest.false)
-    c.rule-rule.result (next))
+    rw (c.fire-node.ensures, counted at.After-say-records, c.say-records.ensures.bytes)
+    (fires l.invariant _ (omega (arith, c.loop-fired-test.true)) (sym c.is_at_rest.ensures ∙ c.if-is_at_rest.false)
+    c.rule-rule.result (next c (stays at.After-fire-node)))
 
 pub shape_of-out : goal.shape_of-out
 shape_of-out c = c.loop-fired.invariant.space

@@ -1,15 +1,9 @@
 -- `Rule::is_at_rest` meets its contract: every rule but the first of the enum's cases fires.
 use mathlib.Core.Path.{◌≡◌, refl}
 use mathlib.Core.Bool.{false}
-use mathlib.Core.List.{[], ◌∷◌}
-use mathlib.Core.Logic.{⊎_elim}
-use native.Mathlib.Omega.{arith}
-use denote.Enum.Declared.{tag_of}
-use types.Run.{OneOf}
 use Rattle.rules.specs.Rules.{at_rest}
 use Rattle.rules.specs.declared.node.Rule.{Rule}
 use Rattle.rules.specs.declared.node.Rule.TheVariants.{Rest, Echo, Tick, Jump, Wake}
-use Rattle.rules.specs.contracts.node.Rule.{the_type}
 use Rattle.rules.proofs.node.Rule.is_at_rest.Goals as goal
 
 pub returns-in-Rest : goal.returns-in-Rest

@@ -14,7 +14,7 @@ use Rattle.evidence.specs.Holders.{holders, first_down, shared, best_of}
 use Rattle.evidence.specs.Rows.{rows_at}
 use Rattle.evidence.proofs.Earliest.{full_told}
 use Rattle.evidence.proofs.Down.{down_stop, down_end, down_hit, down_miss}
-use Rattle.search.proofs.greatest.better.Goals.{Joined-holds-eq1, then-holds-eq1+else-decide, else-holds-eq1}
+use Rattle.search.proofs.greatest.better.Goals.{After-less-x, Joined-holds-eq1, then-holds-eq1+else-decide, else-holds-eq1}
 use Rattle.search.proofs.greatest.better.Goals as goal
 
 -- the ticks that the search looks for, and the search over c of them from x down
@@ -41,6 +41,10 @@ returns-then-x-best c =
     let x = a.s.top + 1 - (a.w - l.left) in
     omega (arith, l.invariant.0, down_end goes a.best l.left x (omega (arith, c.if-x-best.true, c.less-x.ensures)))
 
+-- the tick in hand
+here : (c : After-less-x) → c.less-x.result ≡ c.args.s.top + 1 - (c.args.w - c.loop-left.left)
+here c = c.less-x.ensures
+
 pub returns-then-decide : goal.returns-then-decide
 unfolding best_of
 returns-then-decide c =
@@ -48,13 +52,13 @@ returns-then-decide c =
     let goes = wanted a.b.now a.i a.n a.kind a.w a.m a.s in
     let l = c.loop-left in
     let x = c.less-x.result in
-    let here : x ≡ a.s.top + 1 - (a.w - l.left) = c.less-x.ensures in
+    let hand = here (goal.at.returns-then-decide c).After-less-x in
     let own = sym c.holds.ensures.0 ∙ c.if-holds-eq1.true in
     let held = eq-eqb (holds a.w (held_by a.s) (x - 1)) 1 own in
     let rows = rows_at mask_bytes a.n a.b.now a.i in
     let enough = full_told a.w a.kind (x - 1) a.m rows c.decide.ensures ∙ c.if-decide.true in
     let hit = down_hit goes a.best l.left x (omega arith) (omega arith) (ap₂ (λ (p q : Bool). p && q) held enough) in
-    omega (arith, l.invariant.0, hit, ap (first_down goes a.best l.left) here)
+    omega (arith, l.invariant.0, hit, ap (first_down goes a.best l.left) hand)
 
 -- the tick in hand is not it: the set does not hold it, or too few rows do
 missed : (c : Joined-holds-eq1) →
@@ -79,10 +83,10 @@ loop-left-preserved c =
     let goes = wanted a.b.now a.i a.n a.kind a.w a.m a.s in
     let l = c.loop-left in
     let x = c.less-x.result in
-    let here : x ≡ a.s.top + 1 - (a.w - l.left) = c.less-x.ensures in
-    let below = one_below x a.s.top a.w l.left (omega arith) l.invariant.1 here in
+    let hand = here (goal.at.loop-left-preserved c).After-less-x in
+    let below = one_below x a.s.top a.w l.left (omega arith) l.invariant.1 hand in
     let miss = down_miss goes a.best l.left x (omega arith) (omega arith) (missed c) in
-    let from = ap (first_down goes a.best l.left) here in
+    let from = ap (first_down goes a.best l.left) hand in
     let on = ap (first_down goes a.best (l.left - 1)) below in
     (omega (arith, l.invariant.0, miss, from, on), omega arith)
 

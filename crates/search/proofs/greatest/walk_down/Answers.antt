@@ -20,7 +20,7 @@ use Rattle.search.proofs.greatest.walk_down.Goals as goal
 pub loop-x-init : goal.loop-x-init
 loop-x-init c =
     let a = c.args in
-    let bytes : Bytes a.b.now = λ k. (c.shared_slice_known-1.given k).fits in (
+    let bytes : Bytes a.b.now = λ k. (c.type_inv.b k).fits in (
       λ t p l r. omega (arith, r, holders_far a.w a.kind t mask_bytes a.n a.b.now a.i bytes p),
       omega arith,
       omega arith,

@@ -2,7 +2,6 @@
 -- takes one entry off, and no entry counts twice, so the number stays at most n.
 use mathlib.Core.Path.{sym, ap, ◌∙◌}
 use mathlib.Core.Bool.{true, false}
-use mathlib.Core.Logic.{⊎_elim}
 use native.Mathlib.Omega.{arith}
 use Rattle.packs.specs.Question.{entry_in_force}
 use Rattle.packs.proofs.Entries.{many_end, many_step}

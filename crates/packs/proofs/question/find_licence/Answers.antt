@@ -13,6 +13,11 @@ use Rattle.packs.specs.declared.sheet.Entry.{Entry}
 use Rattle.packs.proofs.Entries.{packs_words}
 use Rattle.packs.proofs.question.find_licence.Goals as goal
 
+-- the pack numbers of the entries that the contract speaks of are the column that is counted
+listed : (pack n : ℕ) (sheet : List ℕ) →
+    count pack (packs (entries_in n sheet entries_place)) ≡ count pack (words n entry_size sheet entries_place)
+listed pack n sheet = ap (count pack) (packs_words n sheet entries_place)
+
 -- ---- the definition, case by case
 module _ (pack tick : ℕ) (es : List Entry) where
   some-in-force : 0 < how_many (entry_in_force pack tick) es → licence pack tick es ≡ in_force
@@ -27,27 +32,20 @@ module _ (pack tick : ℕ) (es : List Entry) where
   unfolding licence
   none-listed p q = rw (le-ltb 0 (how_many (entry_in_force pack tick) es) p, le-ltb 0 (count pack (packs es)) q)
 
+-- ---- the function
 pub returns-then-count_in_force-gt0 : goal.returns-then-count_in_force-gt0
 returns-then-count_in_force-gt0 c =
-    let entries : List Entry =
-    let a = c.args in entries_in a.n a.sheet.now entries_place in
-    let d = c in
-    sym (some-in-force d.args.pack d.args.tick (entries) (omega arith))
+    let a = c.args in
+    sym (some-in-force a.pack a.tick (entries_in a.n a.sheet.now entries_place) (omega arith))
 
 pub returns-then-count_word-gt0 : goal.returns-then-count_word-gt0
 returns-then-count_word-gt0 c =
-    let entries : List Entry =
-    let a = c.args in entries_in a.n a.sheet.now entries_place in
-    let listed : let a = c.args in count a.pack (packs (entries)) ≡ count a.pack (words a.n entry_size a.sheet.now entries_place) =
-    let a = c.args in ap (count a.pack) (packs_words a.n a.sheet.now entries_place) in
-    let d = c in
-    sym (none-in-force d.args.pack d.args.tick (entries) (omega arith) (omega (arith, listed)))
+    let a = c.args in
+    let column = listed a.pack a.n a.sheet.now in
+    sym (none-in-force a.pack a.tick (entries_in a.n a.sheet.now entries_place) (omega arith) (omega (arith, column)))
 
 pub returns : goal.returns
 returns c =
-    let entries : List Entry =
-    let a = c.args in entries_in a.n a.sheet.now entries_place in
-    let listed : let a = c.args in count a.pack (packs (entries)) ≡ count a.pack (words a.n entry_size a.sheet.now entries_place) =
-    let a = c.args in ap (count a.pack) (packs_words a.n a.sheet.now entries_place) in
-    let d = c in
-    sym (none-listed d.args.pack d.args.tick (entries) (omega arith) (omega (arith, listed)))
+    let a = c.args in
+    let column = listed a.pack a.n a.sheet.now in
+    sym (none-listed a.pack a.tick (entries_in a.n a.sheet.now entries_place) (omega arith) (omega (arith, column)))

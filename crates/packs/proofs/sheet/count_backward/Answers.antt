@@ -1,7 +1,6 @@
 -- `sheet::count_backward` meets its contract: what is found and what is left to count are together what the run of entries holds, each
 -- turn takes one entry off the run, and no entry counts twice, so the number stays at most n.
 use mathlib.Core.Bool.{true, false}
-use mathlib.Core.Logic.{⊎_elim}
 use Prim.Native.Nat.{◌+◌}
 use native.Mathlib.Omega.{arith}
 use borrow.Author.Tests.{lt-ltb, le-ltb}

@@ -7,6 +7,7 @@ use borrow.Author.Tests.{lt-ltb, le-ltb, eq-eqb, ne_eqb}
 use Rattle.packs.specs.Number.{verdict_of}
 use Rattle.packs.specs.Sheet.{entries_place, most_entries, sheet_size, count_of, offset_of, sheet_number, sheet_told}
 use Rattle.packs.proofs.Told.{refused_sheet_lem, sheet_taken}
+use Rattle.packs.proofs.sheet.read_sheet.Goals.{After-judge}
 use Rattle.packs.proofs.sheet.read_sheet.Goals as goal
 
 pub returns-then-b-lt-ENTRIES : goal.returns-then-b-lt-ENTRIES
@@ -40,10 +41,10 @@ returns-then-b-n c =
       ne_eqb (length b) (sheet_size (count_of b)) (omega arith),
     )
 
-pub returns-in-Broken : goal.returns-in-Broken
+-- past the tests of the layout the sheet's number is that of its entries
+number : (c : After-judge) → sheet_number c.args.b.now ≡ verdict_of c.judge.result
 unfolding sheet_number
-returns-in-Broken c =
-    let number : sheet_number c.args.b.now ≡ verdict_of c.judge.result =
+number c =
     let b = c.args.b.now in
     rw (
       le-ltb (length b) entries_place c.if-b-lt-ENTRIES.false,
@@ -52,23 +53,16 @@ returns-in-Broken c =
       eq-eqb (length b) (sheet_size (count_of b)) (omega arith),
       ← c.half-count.ensures,
       ← c.judge.ensures,
-    ) in
+    )
+
+pub returns-in-Broken : goal.returns-in-Broken
+returns-in-Broken c =
+    let judged = (goal.at.returns-in-Broken c).After-judge in
     let b = c.args.b.now in
-    sym (refused_sheet_lem b c.in-Broken.why (number ∙ ap verdict_of c.in-Broken.is))
+    sym (refused_sheet_lem b c.in-Broken.why (number judged ∙ ap verdict_of c.in-Broken.is))
 
 pub returns-in-Sound : goal.returns-in-Sound
-unfolding sheet_number
 returns-in-Sound c =
-    let number : sheet_number c.args.b.now ≡ verdict_of c.judge.result =
+    let judged = (goal.at.returns-in-Sound c).After-judge in
     let b = c.args.b.now in
-    rw (
-      le-ltb (length b) entries_place c.if-b-lt-ENTRIES.false,
-      eq-eqb (offset_of b) entries_place (omega arith),
-      le-ltb most_entries (count_of b) (omega arith),
-      eq-eqb (length b) (sheet_size (count_of b)) (omega arith),
-      ← c.half-count.ensures,
-      ← c.judge.ensures,
-    ) in
-    let b = c.args.b.now in
-    rw c.half-count.ensures
-    (sym (sheet_taken b (number ∙ ap verdict_of c.in-Sound.is)))
+    rw c.half-count.ensures (sym (sheet_taken b (number judged ∙ ap verdict_of c.in-Sound.is)))

@@ -8,16 +8,19 @@ use Rattle.fields.specs.Field.{words}
 use Rattle.forms.specs.Column.{count}
 use Rattle.fields.proofs.Words.{size_step}
 use Rattle.forms.proofs.Columns.{count_end, count_here, count_past}
+use Rattle.forms.proofs.column.stands.Goals.{In-loop-left}
 use Rattle.forms.proofs.column.stands.Goals as goal
 
 pub loop-left-init : goal.loop-left-init
 loop-left-init c = (omega arith, refl)
 
+-- a turn leaves the column one line shorter
+shorter : (c : In-loop-left) → let s = c.args.stride in c.loop-left.left * s ≡ (c.loop-left.left - 1) * s + s
+shorter c = size_step c.loop-left.left c.args.stride c.loop-left-test.true
+
 pub word-requires : goal.word-requires
 word-requires c =
-    let shorter : let s = c.args.stride in c.loop-left.left * s ≡ (c.loop-left.left - 1) * s + s =
-    size_step c.loop-left.left c.args.stride c.loop-left-test.true in
-    omega (arith, shorter)
+    omega (arith, shorter (goal.at.word-requires c).In-loop-left)
 
 pub returns-then-x-word : goal.returns-then-x-word
 returns-then-x-word c =
@@ -28,18 +31,14 @@ returns-then-x-word c =
 
 pub overflow_add-at : goal.overflow_add-at
 overflow_add-at c =
-    let shorter : let s = c.args.stride in c.loop-left.left * s ≡ (c.loop-left.left - 1) * s + s =
-    size_step c.loop-left.left c.args.stride c.loop-left-test.true in
-    omega (arith, shorter)
+    omega (arith, shorter (goal.at.overflow_add-at c).In-loop-left)
 
 pub loop-left-preserved : goal.loop-left-preserved
 loop-left-preserved c =
-    let shorter : let s = c.args.stride in c.loop-left.left * s ≡ (c.loop-left.left - 1) * s + s =
-    size_step c.loop-left.left c.args.stride c.loop-left-test.true in
     let a = c.args in
     let l = c.loop-left in
     let past = count_past a.x l.left a.stride a.b.now l.at c.loop-left-test.true (omega arith) in
-    (omega (arith, shorter), sym past ∙ l.invariant.1)
+    (omega (arith, shorter (goal.at.loop-left-preserved c).In-loop-left), sym past ∙ l.invariant.1)
 
 pub returns : goal.returns
 returns c =

@@ -11,7 +11,7 @@ use Rattle.forms.specs.Tally.{buckets}
 use Rattle.fields.proofs.Words.{size_step, words_end}
 use Rattle.forms.proofs.Columns.{count_end, count_up, twins_end, twins_up, Met, met_none, met_up}
 use Rattle.forms.proofs.column.tally_words.Goals as goal
-use Rattle.forms.proofs.column.tally_words.Goals.{then-met-k-ne0, else-met-k-ne0}
+use Rattle.forms.proofs.column.tally_words.Goals.{In-loop-behind, Joined-met-k-ne0, then-met-k-ne0, else-met-k-ne0}
 
 pub loop-behind-init : goal.loop-behind-init
 loop-behind-init c =
@@ -27,19 +27,20 @@ loop-behind-init c =
       λ x e. ap (count x) none ∙ met_none (replicate buckets 0) x e,
     )
 
+-- a turn leaves the lines above one fewer
+fewer : (c : In-loop-behind) →
+    let a = c.args in
+    let l = c.loop-behind in
+    (a.n - l.behind) * a.stride ≡ (a.n - l.behind - 1) * a.stride + a.stride
+fewer c = size_step (c.args.n - c.loop-behind.behind) c.args.stride (omega arith)
+
 pub overflow_sub-at : goal.overflow_sub-at
 overflow_sub-at c =
-    let fewer : let a = c.args in let l = c.loop-behind in (a.n - l.behind) * a.stride ≡ (a.n - l.behind - 1) * a.stride + a.stride =
-    let a = c.args in
-    size_step (a.n - c.loop-behind.behind) a.stride (omega arith) in
-    omega (arith, fewer)
+    omega (arith, fewer (goal.at.overflow_sub-at c).In-loop-behind)
 
 pub word-here-requires : goal.word-here-requires
 word-here-requires c =
-    let fewer : let a = c.args in let l = c.loop-behind in (a.n - l.behind) * a.stride ≡ (a.n - l.behind - 1) * a.stride + a.stride =
-    let a = c.args in
-    size_step (a.n - c.loop-behind.behind) a.stride (omega arith) in
-    omega (arith, fewer)
+    omega (arith, fewer (goal.at.word-here-requires c).In-loop-behind)
 
 pub overflow_add-zeros : goal.overflow_add-zeros
 overflow_add-zeros c = omega (arith, c.one_if_same-zeros.ensures.1)
@@ -53,19 +54,24 @@ bounds-met-k c = c.bucket-k.ensures.1
 pub bounds-met-k-in-loop-behind : goal.bounds-met-k-in-loop-behind
 bounds-met-k-in-loop-behind c = c.bucket-k.ensures.1
 
-pub loop-behind-preserved : goal.loop-behind-preserved
-loop-behind-preserved c =
-    let fewer : let a = c.args in let l = c.loop-behind in (a.n - l.behind) * a.stride ≡ (a.n - l.behind - 1) * a.stride + a.stride =
+-- the line in hand adds its twins among those behind: they are counted, or its bucket is new and there are none
+summed : (c : Joined-met-k-ne0) →
     let a = c.args in
-    size_step (a.n - c.loop-behind.behind) a.stride (omega arith) in
-    let summed : let a = c.args in let l = c.loop-behind in let behind = words l.behind a.stride a.b.now l.at in let here = c.word-here.result in (c.if-met-k-ne0.twins ≡ l.twins + count here behind) × (c.if-met-k-ne0.twins ≤ l.twins + most_column) =
+    let l = c.loop-behind in
+    let behind = words l.behind a.stride a.b.now l.at in
+    let here = c.word-here.result in
+    (c.if-met-k-ne0.twins ≡ l.twins + count here behind) × (c.if-met-k-ne0.twins ≤ l.twins + most_column)
+summed c =
     let l = c.loop-behind in
     let here = c.word-here.result in
     let marked = ap (λ (k : ℕ). get_or l.met k 0) c.bucket-k.ensures.0 in
     elim c.if-met-k-ne0.branch [
       | then-met-k-ne0 w ↦ (omega arith, omega arith)
       | else-met-k-ne0 w ↦ let none = l.invariant.4 here (sym marked ∙ w.if-met-k-ne0.false) in (omega (arith, none), omega arith)
-    ] in
+    ]
+
+pub loop-behind-preserved : goal.loop-behind-preserved
+loop-behind-preserved c =
     let a = c.args in
     let b = a.b.now in
     let l = c.loop-behind in
@@ -73,11 +79,11 @@ loop-behind-preserved c =
     let zero = c.one_if_same-zeros.ensures in
     let same = c.one_if_same-same.ensures in
     let up = l.at - a.stride in
-    let less = fewer in
+    let less = fewer (goal.at.loop-behind-preserved c).In-loop-behind in
     let more = suc-mul l.behind a.stride in
     let one : a.n - l.behind - 1 ≡ a.n - (l.behind + 1) = omega arith in
     let above : up + a.stride ≡ l.at = omega (arith, less) in
-    let sum = summed in
+    let sum = summed (goal.at.loop-behind-preserved c).Joined-met-k-ne0 in
     let count·up = count_up l.behind a.stride b l.at up here.result above here.ensures in
     let twins·up = twins_up l.behind a.stride b l.at up here.result above here.ensures in
     let met·up = met_up l.behind a.stride b l.at up here.result above here.ensures in (

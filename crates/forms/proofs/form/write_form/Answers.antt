@@ -11,6 +11,7 @@ use Rattle.forms.specs.Form.{serials_place, form_size, form_written, put_form}
 use Rattle.forms.proofs.Rosters.{Limits, roster_limits}
 use Rattle.fields.proofs.Fields.{put_byte}
 use Rattle.forms.proofs.Told.{refusal}
+use Rattle.forms.proofs.form.write_form.Goals.{After-put_half, In_default}
 use Rattle.forms.proofs.form.write_form.Goals as goal
 
 -- the stores of the body, one after the other, are the form
@@ -31,15 +32,17 @@ returns-then-out-size c =
     let a = c.args in
     rw (← c.in_default.ensures, lt-ltb (length a.out.now) (form_size (length a.serials.now)) c.if-out-size.true)
 
+-- past the refusal the roster is sound, so n and f are within the limits
+bounds : (c : In_default) → let a = c.args in Limits a.f (length a.serials.now)
+bounds c = let a = c.args in roster_limits a.f a.own a.serials.now (sym c.in_default.ensures)
+
 pub overflow_cast-out : goal.overflow_cast-out
 overflow_cast-out c =
-    let a = c.args in
-    omega (arith, roster_limits a.f a.own a.serials.now (sym c.in_default.ensures))
+    omega (arith, bounds (goal.at.overflow_cast-out c).In_default)
 
 pub overflow_cast-out-2 : goal.overflow_cast-out-2
 overflow_cast-out-2 c =
-    let a = c.args in
-    omega (arith, roster_limits a.f a.own a.serials.now (sym c.in_default.ensures))
+    omega (arith, bounds (goal.at.overflow_cast-out-2 c).In_default)
 
 pub bounds-out-1 : goal.bounds-out-1
 bounds-out-1 c = simp length-set (omega arith)
@@ -47,31 +50,29 @@ bounds-out-1 c = simp length-set (omega arith)
 pub put_half-requires : goal.put_half-requires
 put_half-requires c = simp length-set (omega arith)
 
+-- no store changes the length
+half_length : (c : After-put_half) → length c.put_half.new.b ≡ length c.args.out.now
+half_length c = simp length-set at c.put_half.auto.b
+
 pub put_word-requires : goal.put_word-requires
 put_word-requires c =
-    let half_length : length c.put_half.new.b ≡ length c.args.out.now =
-    simp length-set at c.put_half.auto.b in
-    omega (arith, half_length)
+    omega (arith, half_length (goal.at.put_word-requires c).After-put_half)
 
 pub put_serials-requires : goal.put_serials-requires
 put_serials-requires c =
-    let half_length : length c.put_half.new.b ≡ length c.args.out.now =
-    simp length-set at c.put_half.auto.b in
     omega (
       arith,
       c.put_word.auto.b,
-      half_length,
+      half_length (goal.at.put_serials-requires c).After-put_half,
     )
 
 pub shape_of-out : goal.shape_of-out
 shape_of-out c =
-    let half_length : length c.put_half.new.b ≡ length c.args.out.now =
-    simp length-set at c.put_half.auto.b in
     omega (
       arith,
       c.put_serials.auto.out,
       c.put_word.auto.b,
-      half_length,
+      half_length (goal.at.shape_of-out c).After-put_half,
     )
 
 pub returns : goal.returns
@@ -85,5 +86,5 @@ returns c =
       c.put_serials.ensures,
       c.put_word.ensures,
       c.put_half.ensures,
-      laid a.out.now a.f a.own serials (roster_limits a.f a.own serials (sym c.in_default.ensures)),
+      laid a.out.now a.f a.own serials (bounds (goal.at.returns c).In_default),
     )

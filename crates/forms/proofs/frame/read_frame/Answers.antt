@@ -7,6 +7,7 @@ use borrow.Author.Tests.{ne_eqb, eq-eqb, lt-ltb, le-ltb}
 use Rattle.fields.specs.Field.{field}
 use Rattle.forms.specs.Frame.{frame_size, known_head, misshapen, frame_told, frame_number}
 use Rattle.forms.proofs.frame.read_frame.Goals as goal
+use Rattle.forms.proofs.frame.read_frame.Goals.{Else-not-has_known_head, Else-b-ne0-2}
 use Rattle.forms.proofs.frame.read_frame.Goals.{then-b-ne0-via-then-b-ne0, then-b-ne0-via-else-b-ne0+then-b-ne0-2}
 
 pub returns-then-b-ne-FRAME : goal.returns-then-b-ne-FRAME
@@ -27,46 +28,39 @@ returns-then-not-has_known_head c =
     sym c.has_known_head.ensures ∙ c.if-not-has_known_head.true in
     rw (eq-eqb (length b) frame_size c.if-b-ne-FRAME.false, head)
 
+-- past the test of kind and flag they are known
+head : (c : Else-not-has_known_head) → let b = c.args.b.now in known_head (get_or b 0 0) (get_or b 1 0) ≡ true
+head c = sym c.has_known_head.ensures ∙ c.if-not-has_known_head.false
+
 pub returns-then-b-ne0 : goal.returns-then-b-ne0
 unfolding frame_told frame_number
 returns-then-b-ne0 c =
-    let head : let b = c.args.b.now in known_head (get_or b 0 0) (get_or b 1 0) ≡ true =
-    sym c.has_known_head.ensures ∙ c.if-not-has_known_head.false in
     let b = c.args.b.now in
-    rw (eq-eqb (length b) frame_size c.if-b-ne-FRAME.false, head)
+    rw (eq-eqb (length b) frame_size c.if-b-ne-FRAME.false, head (goal.at.returns-then-b-ne0 c).Else-not-has_known_head)
     (elim c.then-b-ne0.branch [
       | then-b-ne0-via-then-b-ne0 w ↦ rw (ne_eqb (get_or b 2 0) 0 w.if-b-ne0.true)
       | then-b-ne0-via-else-b-ne0+then-b-ne0-2 w ↦ rw (eq-eqb (get_or b 2 0) 0 w.if-b-ne0.false, ne_eqb (get_or b 3 0) 0 w.if-b-ne0-2.true)
     ])
 
-pub returns-then-last-tick : goal.returns-then-last-tick
-unfolding frame_told frame_number
-returns-then-last-tick c =
-    let head : let b = c.args.b.now in known_head (get_or b 0 0) (get_or b 1 0) ≡ true =
-    sym c.has_known_head.ensures ∙ c.if-not-has_known_head.false in
-    let shaped : misshapen c.args.b.now ≡ false =
+-- past the tests of the bytes the frame has its shape
+shaped : (c : Else-b-ne0-2) → misshapen c.args.b.now ≡ false
+shaped c =
     let b = c.args.b.now in
     rw (
       eq-eqb (length b) frame_size c.if-b-ne-FRAME.false,
-      head,
+      sym c.has_known_head.ensures ∙ c.if-not-has_known_head.false,
       eq-eqb (get_or b 2 0) 0 c.if-b-ne0.false,
       eq-eqb (get_or b 3 0) 0 c.if-b-ne0-2.false,
-    ) in
+    )
+
+pub returns-then-last-tick : goal.returns-then-last-tick
+unfolding frame_told frame_number
+returns-then-last-tick c =
     let a = c.args in
-    rw (shaped, lt-ltb a.last (field 4 a.b.now 4) (omega arith))
+    rw (shaped (goal.at.returns-then-last-tick c).Else-b-ne0-2, lt-ltb a.last (field 4 a.b.now 4) (omega arith))
 
 pub returns : goal.returns
 unfolding frame_told frame_number
 returns c =
-    let head : let b = c.args.b.now in known_head (get_or b 0 0) (get_or b 1 0) ≡ true =
-    sym c.has_known_head.ensures ∙ c.if-not-has_known_head.false in
-    let shaped : misshapen c.args.b.now ≡ false =
-    let b = c.args.b.now in
-    rw (
-      eq-eqb (length b) frame_size c.if-b-ne-FRAME.false,
-      head,
-      eq-eqb (get_or b 2 0) 0 c.if-b-ne0.false,
-      eq-eqb (get_or b 3 0) 0 c.if-b-ne0-2.false,
-    ) in
     let a = c.args in
-    rw (shaped, le-ltb a.last (field 4 a.b.now 4) (omega arith), c.word-tick.ensures) refl
+    rw (shaped (goal.at.returns c).Else-b-ne0-2, le-ltb a.last (field 4 a.b.now 4) (omega arith), c.word-tick.ensures) refl

@@ -6,6 +6,7 @@ use Prim.Native.Nat.{ℕ, ◌≤◌}
 use native.Mathlib.Omega.{arith}
 use lib.ListN.{length}
 use borrow.Author.Tests.{eqb-false}
+use Rattle.fields.specs.Field.{words}
 use Rattle.forms.specs.Number.{number_of}
 use Rattle.forms.specs.Roster.{full_faults, limits_then, roster_number}
 use Rattle.forms.specs.declared.answer.Refusal.{Refusal}
@@ -13,12 +14,8 @@ use Rattle.fields.proofs.Words.{length_words}
 use Rattle.forms.proofs.Rosters.{Limits, limits_full, roster_refused, roster_own, roster_zero, roster_twice}
 use Rattle.forms.proofs.Rosters.{roster_stranger, roster_sound}
 use Rattle.forms.proofs.Told.{refusal}
+use Rattle.forms.proofs.roster.judge.Goals.{In_default}
 use Rattle.forms.proofs.roster.judge.Goals as goal
-
--- a column's serials keep the limits where n and f do
-within : (f n : ℕ) (serials : List ℕ) → length serials ≡ n → 0 ≡ limits_then n f 0 →
-    Limits f (length serials) × (full_faults (length serials) ≤ f)
-within f n serials size e = subst (λ (n : ℕ). Limits f n × (full_faults n ≤ f)) (sym size) (limits_full n f 0 (sym e))
 
 -- what n and f refuse, the roster refuses with the same number
 refused : (f own n : ℕ) (serials : List ℕ) → length serials ≡ n → (why : Refusal) → number_of why ≡ limits_then n f 0 →
@@ -32,10 +29,20 @@ returns-in-Broken c =
     let a = c.args in
     refused a.f a.own a.n _ (length_words a.n a.stride a.b.now a.i) c.in-Broken.why c.in-Broken.ensures
 
+-- past n and f the limits hold, and f is all that n allows
+within : (c : In_default) →
+    let a = c.args in
+    let n = length (words a.n a.stride a.b.now a.i) in
+    Limits a.f n × (full_faults n ≤ a.f)
+within c =
+    let a = c.args in
+    subst (λ (n : ℕ). Limits a.f n × (full_faults n ≤ a.f)) (sym (length_words a.n a.stride a.b.now a.i))
+    (limits_full a.n a.f 0 (sym c.in_default.ensures))
+
 pub returns-then-own-eq0 : goal.returns-then-own-eq0
 returns-then-own-eq0 c =
     let a = c.args in
-    let w = within a.f a.n _ (length_words a.n a.stride a.b.now a.i) c.in_default.ensures in
+    let w = within (goal.at.returns-then-own-eq0 c).In_default in
     sym (roster_own a.f a.own _ w.0 w.1 c.if-own-eq0.true)
 
 pub tally_words-seen-requires : goal.tally_words-seen-requires
@@ -52,21 +59,21 @@ tally_words-seen-requires c =
 pub returns-then-seen-gt0 : goal.returns-then-seen-gt0
 returns-then-seen-gt0 c =
     let a = c.args in
-    let w = within a.f a.n _ (length_words a.n a.stride a.b.now a.i) c.in_default.ensures in
+    let w = within (goal.at.returns-then-seen-gt0 c).In_default in
     let seen = c.tally_words-seen.ensures in
     sym (roster_zero a.f a.own _ w.0 w.1 (omega (arith, seen.zeros)))
 
 pub returns-then-seen-gt0-2 : goal.returns-then-seen-gt0-2
 returns-then-seen-gt0-2 c =
     let a = c.args in
-    let w = within a.f a.n _ (length_words a.n a.stride a.b.now a.i) c.in_default.ensures in
+    let w = within (goal.at.returns-then-seen-gt0-2 c).In_default in
     let seen = c.tally_words-seen.ensures in
     sym (roster_twice a.f a.own _ w.0 w.1 c.if-own-eq0.false (omega (arith, seen.zeros)) (omega (arith, seen.twins)))
 
 pub returns-then-seen-eq0 : goal.returns-then-seen-eq0
 returns-then-seen-eq0 c =
     let a = c.args in
-    let w = within a.f a.n _ (length_words a.n a.stride a.b.now a.i) c.in_default.ensures in
+    let w = within (goal.at.returns-then-seen-eq0 c).In_default in
     let seen = c.tally_words-seen.ensures in
     sym
     (roster_stranger a.f a.own _ w.0 w.1 c.if-own-eq0.false
@@ -77,7 +84,7 @@ returns-then-seen-eq0 c =
 pub returns : goal.returns
 returns c =
     let a = c.args in
-    let w = within a.f a.n _ (length_words a.n a.stride a.b.now a.i) c.in_default.ensures in
+    let w = within (goal.at.returns c).In_default in
     let seen = c.tally_words-seen.ensures in
     sym
     (roster_sound a.f a.own _ w.0 w.1 c.if-own-eq0.false

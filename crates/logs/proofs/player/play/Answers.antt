@@ -18,6 +18,7 @@ use Rattle.logs.specs.declared.file.Log.{Log}
 use Rattle.logs.specs.declared.file.LogRead.TheVariants.{Taken, Refused}
 use Rattle.logs.specs.Table.{Laid}
 use Rattle.logs.proofs.Logs.{Judged, log_judged, told_laid, told_broken}
+use Rattle.logs.proofs.player.play.Goals.{In-Taken}
 use Rattle.logs.proofs.player.play.Goals as goal
 
 -- ---- the answers
@@ -78,10 +79,13 @@ lines_refused log e = go (log_judged log)
 pub returns-then-out-lt-LISTING_ROOM : goal.returns-then-out-lt-LISTING_ROOM
 returns-then-out-lt-LISTING_ROOM c = played_short c.args.log.now c.args.out.now c.if-out-lt-LISTING_ROOM.true
 
+-- the log in hand is taken
+took : (c : In-Taken) → TakenAs c.args.log.now c.in-Taken.taken
+took c = taken_as _ _ (ap told_by (sym c.in-Taken.is) ∙ c.read_log.ensures)
+
 pub play_calls-requires : goal.play_calls-requires
 play_calls-requires c =
-    let took : TakenAs c.args.log.now c.in-Taken.taken = taken_as _ _ (ap told_by (sym c.in-Taken.is) ∙ c.read_log.ensures) in
-    (took.laid, omega arith)
+    ((took (goal.at.play_calls-requires c).In-Taken).laid, omega arith)
 
 pub returns-in-Refused : goal.returns-in-Refused
 returns-in-Refused c =
@@ -90,5 +94,4 @@ returns-in-Refused c =
 
 pub returns-in-Taken : goal.returns-in-Taken
 returns-in-Taken c =
-    let took : TakenAs c.args.log.now c.in-Taken.taken = taken_as _ _ (ap told_by (sym c.in-Taken.is) ∙ c.read_log.ensures) in
-    played_listed _ c.if-out-lt-LISTING_ROOM.false took.lines c.play_calls.ensures
+    played_listed _ c.if-out-lt-LISTING_ROOM.false (took (goal.at.returns-in-Taken c).In-Taken).lines c.play_calls.ensures

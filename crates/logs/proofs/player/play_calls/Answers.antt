@@ -15,6 +15,7 @@ use Rattle.logs.specs.declared.file.Log.{Log}
 use Rattle.logs.specs.declared.player.Call.{Call}
 use Rattle.logs.proofs.Lines.{lines_refused, lines_taken}
 use Rattle.text.proofs.Puts.{puts_as, puts_then}
+use Rattle.logs.proofs.player.play_calls.Goals.{After-show_boot-boot}
 use Rattle.logs.proofs.player.play_calls.Goals as goal
 
 -- behind boot's line stand the lines of the events
@@ -41,19 +42,26 @@ shows : {o called : Outcome} {out image sent after : List ℕ} {call : Call} →
 shows {out = out} {image} {sent} {after} {call} is shown =
     subst (λ (o : Outcome). CallShown 0 o out 0 call image sent after) is shown
 
+-- the call is the boot of the log's form, and it is shown
+shown : (c : After-show_boot-boot) →
+    let a = c.args in
+    CallShown 0 (booted layout (form_of a.log.now) image_lent out_lent) a.out.now 0 c.show_boot-boot.result
+    c.boot-answer.new.image c.boot-answer.new.out c.show_boot-boot.new.out
+shown c = shows (boots c.requires.0 c.boot-answer.ensures) (c.show_boot-boot.ensures c.boot-answer.new.out)
+
 pub returns-then-boot-ne0 : goal.returns-then-boot-ne0
 returns-then-boot-ne0 c =
-    let boot = shows (boots c.requires.0 c.boot-answer.ensures) (c.show_boot-boot.ensures c.boot-answer.new.out) in
+    let boot = shown (goal.at.returns-then-boot-ne0 c).After-show_boot-boot in
     puts_as (sym (lines_refused layout last_tick _ _ (λ h. c.if-boot-ne0.true (boot.number ∙ h)))) (omega arith) boot.line
 
 pub play_events-requires : goal.play_events-requires
 play_events-requires c =
-    let boot = shows (boots c.requires.0 c.boot-answer.ensures) (c.show_boot-boot.ensures c.boot-answer.new.out) in
+    let boot = shown (goal.at.play_events-requires c).After-show_boot-boot in
     record { of_log = c.requires.0; first = boot.event; header = omega arith; room = omega (arith, boot.line, c.requires.0) }
 
 pub returns : goal.returns
 returns c =
-    let boot = shows (boots c.requires.0 c.boot-answer.ensures) (c.show_boot-boot.ensures c.boot-answer.new.out) in
+    let boot = shown (goal.at.returns c).After-show_boot-boot in
     let fits = c.play_events.ensures.within in
     puts_as (lines c.requires.0 boot c.if-boot-ne0.false) (omega (arith, c.requires.0))
     (puts_then (omega (arith, c.requires, boot.line.within, fits)) boot.line c.play_events.ensures)

@@ -4,30 +4,27 @@ use Prim.Native.Nat.{◌+◌, ◌-◌, ◌*◌}
 use native.Mathlib.Omega.{arith}
 use Rattle.fields.proofs.Words.{size_step}
 use Rattle.forms.proofs.Columns.{ascends_end, ascends_on, ascends_no}
+use Rattle.forms.proofs.column.ascends.Goals.{In-loop-left}
 use Rattle.forms.proofs.column.ascends.Goals as goal
 
 pub loop-left-init : goal.loop-left-init
 loop-left-init c = (omega arith, omega arith, refl)
 
+-- a turn leaves the column one line shorter
+shorter : (c : In-loop-left) → let s = c.args.stride in c.loop-left.left * s ≡ (c.loop-left.left - 1) * s + s
+shorter c = size_step c.loop-left.left c.args.stride (omega arith)
+
 pub word-here-requires : goal.word-here-requires
-word-here-requires c =
-    let shorter : let s = c.args.stride in c.loop-left.left * s ≡ (c.loop-left.left - 1) * s + s =
-    size_step c.loop-left.left c.args.stride (omega arith) in
-    omega (arith, shorter)
+word-here-requires c = omega (arith, shorter (goal.at.word-here-requires c).In-loop-left)
 
 pub overflow_add-at : goal.overflow_add-at
-overflow_add-at c =
-    let shorter : let s = c.args.stride in c.loop-left.left * s ≡ (c.loop-left.left - 1) * s + s =
-    size_step c.loop-left.left c.args.stride (omega arith) in
-    omega (arith, shorter)
+overflow_add-at c = omega (arith, shorter (goal.at.overflow_add-at c).In-loop-left)
 
 pub word-requires : goal.word-requires
 word-requires c =
-    let shorter : let s = c.args.stride in c.loop-left.left * s ≡ (c.loop-left.left - 1) * s + s =
-    size_step c.loop-left.left c.args.stride (omega arith) in
-    let shorter-still : let s = c.args.stride in (c.loop-left.left - 1) * s ≡ (c.loop-left.left - 1 - 1) * s + s =
+    let still : let s = c.args.stride in (c.loop-left.left - 1) * s ≡ (c.loop-left.left - 1 - 1) * s + s =
     size_step (c.loop-left.left - 1) c.args.stride (omega arith) in
-    omega (arith, shorter, shorter-still)
+    omega (arith, shorter (goal.at.word-requires c).In-loop-left, still)
 
 pub returns-then-word-here : goal.returns-then-word-here
 returns-then-word-here c =
@@ -37,11 +34,9 @@ returns-then-word-here c =
 
 pub loop-left-preserved : goal.loop-left-preserved
 loop-left-preserved c =
-    let shorter : let s = c.args.stride in c.loop-left.left * s ≡ (c.loop-left.left - 1) * s + s =
-    size_step c.loop-left.left c.args.stride (omega arith) in
     let a = c.args in
     let l = c.loop-left in (
-      omega (arith, shorter),
+      omega (arith, shorter (goal.at.loop-left-preserved c).In-loop-left),
       omega arith,
       sym (ascends_on l.left a.stride a.b.now l.at (omega arith) (omega arith)) ∙ l.invariant.2,
     )

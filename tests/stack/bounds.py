@@ -42,6 +42,8 @@ LAST_OPERAND = re.compile(r'(?:.*,)?%(\w+)')
 
 STACK_POINTER = re.compile(r'(?<!\()%rsp\b|%(?:esp|spl?)\b')
 MOVED = re.compile(r'(sub|add) \$0x([0-9a-f]+),%rsp')
+# a frame given back so that the flags stay as they are; one is never taken so
+GIVEN_BACK = re.compile(r'lea 0x([0-9a-f]+)\(%rsp\),%rsp')
 UNKNOWN = re.compile(r'(push|pop)([afw]| %(?!r)| %r\d+[bdw])|enter|leave|loop|xbegin|l(call|jmp|ret)|iret|ret\w')
 BELOW = re.compile(r'-0x([0-9a-f]+)\(%rsp')
 
@@ -131,6 +133,8 @@ def descent(name, instruction):
         by = int(moved[2], 16)
         by -= by >> 63 << 64  # one below 0 is printed as 64 bits
         return by if moved[1] == 'sub' else -by
+    if given_back := GIVEN_BACK.fullmatch(instruction.text):
+        return -int(given_back[1], 16)
     read_alone = re.fullmatch(r'mov %rsp,%r\w+', instruction.text)
     if UNKNOWN.match(instruction.text) or STACK_POINTER.search(instruction.operands) and not read_alone:
         raise Refused(f'{name}: the stack pointer moves by {instruction.text}, which is not known')

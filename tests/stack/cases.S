@@ -1,6 +1,6 @@
 /*
- * Code that bounds.py has to refuse, a case each, since its stack has no bound or none that it tells; and one, KNOWN, whose bound is
- * known. The run of tests/stack names a case by defining it.
+ * Code that bounds.py has to refuse, a case each, since its stack has no bound or none that it tells; and two, KNOWN and GIVEN_BACK,
+ * whose bounds are known. The run of tests/stack names a case by defining it.
  */
 #define FUNCTION(name) .section .text.name, "ax", @progbits; .globl name; .type name, @function; name:
 #define LOCAL(name) .section .text.name, "ax", @progbits; .type name, @function; name:
@@ -39,6 +39,16 @@ LOCAL(helper)
     .section .text.untyped, "ax", @progbits
     .globl untyped
 untyped:
+    ret
+#elif defined GIVEN_BACK /* 8 + 4000 + 128, whichever way it is left: lea keeps the flags, and counts as the add that it is */
+    sub $4000, %rsp
+    test %rdi, %rdi
+    lea 4000(%rsp), %rsp
+    jne .Lother
+    ret
+.Lother:
+    push %rbx
+    pop %rbx
     ret
 #elif defined ITSELF
     push %rbx

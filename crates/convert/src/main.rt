@@ -13,10 +13,10 @@ fn main(rt: HostRuntime) -> io::Result<()> {
     let mut old = [0u8; MOST_OLD_IMAGE];
     let size = read_full(&mut rt.reader(), &mut old);
     let mut image = [0u8; MOST_IMAGE];
+    // the call that C is given, so its answer tells by a number
     let done = convert(&old[..size], &mut image);
     if done.number != 0 {
-        let number = done.number;
-        eprintln!(rt; "refused {number}")?;
+        eprintln!(rt; "refused {}", done.number)?;
         return Ok(());
     }
     let written = done.written as usize;

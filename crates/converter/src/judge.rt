@@ -1,190 +1,142 @@
 // Rows of an old image judged where they lie, so that nothing is written before an image is known to be sound: whether they are proper,
 // and whether a rule can fire on them. This runs at service, so the holders of each tick are counted one by one. A set of the old window
-// is the same set in a wider one, so the rules of today judge it. These are joints: the rows have to lie inside the buffer, which the
-// caller has checked.
-ghost use Rattle.std.specs.Prelude.{◌≡◌, ◌+◌, ◌*◌, ◌≤◌, ◌<◌, ◌^◌, ltb, length};
-ghost use Rattle.sets.specs.Sets.{mask_by, held_by};
-ghost use Rattle.evidence.specs.Rows.{set_size, row_size, place_of_set, rows_at, proper_rows};
+// is the same set in a wider one, so the rules of today judge it.
+ghost use Rattle.std.specs.Prelude.{◌≡◌, ◌+◌, ◌≤◌, ◌<◌, eqb, ltb, get_or, length};
+ghost use Rattle.sets.specs.Ticks.{holds};
+ghost use Rattle.evidence.specs.Rows.{set_of, proper_rows};
 ghost use Rattle.evidence.specs.Holders.{holders, best_of, greatest};
 ghost use Rattle.rules.specs.Describe.{window, last_tick};
 ghost use Rattle.rules.specs.Rules.{can_r3, jump_to, wake_at, first_rule, at_rest};
 ghost use Rattle.rules.specs.Steps.{may_echo};
-ghost use Rattle.node.specs.Layout.{old_layout, image_size};
-ghost use Rattle.converter.specs.Old.{old_rows};
+ghost use Rattle.evidence.specs.Holders.{tick_told};
+ghost use Rattle.evidence.specs.Rows.{no_row};
 
-use crate::rows::{OLD_INIT_PLACE, OLD_ROW, read_old_set};
-use evidence::rows::{ECHO_PLACE, is_proper_set};
+use crate::rows::OldRows;
+use evidence::rows::is_proper_set;
 use fields::kind::{ECHO, INIT};
-use node::layout::HEADER;
 use rules::node::Node;
-use sets::ticks::Ticks;
 
-// Where in its row the old set of a kind stands.
-fn old_place(kind: u32) -> usize
-    ensures { (result ≡ place_of_set old_layout.masks kind) × (result + set_size old_layout.masks ≤ row_size old_layout.masks) }
+// Of so many, f + 1, one is correct.
+fn enough(node: Node) -> usize
+    ensures { result ≡ node.faults + 1 }
 {
-    if kind == ECHO {
-        ECHO_PLACE
-    } else {
-        OLD_INIT_PLACE
-    }
+    node.faults as usize + 1
 }
 
-// How many of the n old rows from i on hold (kind, t).
-fn count_old(old: &[u8], i: usize, n: usize, kind: u32, t: u32) -> usize
-    requires { i + n * row_size old_layout.masks ≤ length old.now }
-    ensures { (result ≡ holders window kind t (rows_at old_layout.masks n old.now i)) × (result ≤ n) }
-{
-    let place = old_place(kind);
-    let mut found: usize = 0;
-    let mut at = i;
-    let mut left = n;
-    while 0 < left {
-        found += read_old_set(old, at + place).holds(Node::WINDOW, t) as usize;
-        at += OLD_ROW;
-        left -= 1;
-    }
-    found
-}
+impl<'a> OldRows<'a> {
+    // ---- asked of the rows
 
-// The greatest tick of one old set s, as tick + 1, that is at least low and that m of the n old rows from i on hold; 0 for none. An old
-// mask is one word. It is halved at each tick, so that its lowest bit is that of the tick in hand; once it is 0, the set holds no more.
-fn find_shared(old: &[u8], i: usize, n: usize, kind: u32, m: usize, s: Ticks, low: u64) -> u64
-    requires { (i + n * row_size old_layout.masks ≤ length old.now) × (mask_by s.mask < 2 ^ old_layout.window) }
-    ensures { result ≡ best_of window kind m low (rows_at old_layout.masks n old.now i) (held_by s) }
-{
-    let mask = s.mask;
-    let mut rest = mask.word_at(0);
-    let mut x = s.top as u64 + 1;
-    while 0 < rest {
-        if x <= low {
-            return 0;
+    // Whether row k holds (kind, t).
+    fn holds(&self, k: usize, kind: u32, t: u32) -> bool
+        requires { k < length self.now }
+        ensures { result ≡ eqb (holds window (set_of kind (get_or self.now k no_row)) t) 1 }
+    {
+        self.set(k, kind).holds(Node::WINDOW, t)
+    }
+
+    // How many rows hold (kind, t).
+    fn count(&self, kind: u32, t: u32) -> usize
+        ensures { (result ≡ holders window kind t self.now) × (result ≤ length self.now) }
+    {
+        let mut found: usize = 0;
+        for k in 0..self.len() {
+            found += usize::from(self.holds(k, kind, t));
         }
-        if rest % 2 == 1 {
-            if m <= count_old(old, i, n, kind, (x - 1) as u32) {
-                return x;
+        found
+    }
+
+    // The greatest tick of the first row's set of a kind that is at least low and that m of the rows hold. An old mask is one word. It is
+    // halved at each tick, so that its lowest bit is that of the tick in hand. (A `for` would be no plainer: what ends the loop is that
+    // nothing is left of the mask, and mostly little is left of it.)
+    fn find_shared(&self, kind: u32, m: usize, low: u64) -> Option<u32>
+        requires { 0 < length self.now }
+        ensures { tick_told result ≡ best_of window kind m low self.now (set_of kind (get_or self.now 0 no_row)) }
+    {
+        let s = self.set(0, kind);
+        let mut rest = s.mask.word_at(0);
+        let mut x = s.top as u64 + 1;
+        while low < x && 0 < rest {
+            let t = (x - 1) as u32;
+            if rest % 2 == 1 && m <= self.count(kind, t) {
+                return Some(t);
+            }
+            rest /= 2;
+            x -= 1;
+        }
+        None
+    }
+
+    // Whether there is a tick of a kind, at least low, that m of the rows hold. The last m - 1 rows alone are too few for one, so it is
+    // enough to look at the sets of those before. What the set of a row holds is settled with that row, so a search counts only the rows
+    // left.
+    fn is_any_shared(&self, kind: u32, m: usize, low: u64) -> bool
+        requires { 0 < m }
+        ensures { result ≡ ltb 0 (greatest window kind m low self.now) }
+    {
+        let n = self.len();
+        for k in 0..n.saturating_sub(m - 1) {
+            let rest = self.part(k, n - k);
+            if rest.find_shared(kind, m, low).is_some() {
+                return true;
             }
         }
-        rest /= 2;
-        x -= 1;
+        false
     }
-    0
-}
 
-// Whether there is a tick of a kind, at least low, that m of the n old rows hold. The last m - 1 rows alone are too few for one, so it is
-// enough to look at the sets of those before. What the set of a row holds is settled with that row, so a search counts only the rows left.
-fn is_any_shared(old: &[u8], n: usize, kind: u32, m: usize, low: u64) -> bool
-    requires { (image_size old_layout n ≤ length old.now) × (0 < m) }
-    ensures { result ≡ ltb 0 (greatest window kind m low (old_rows n old.now)) }
-{
-    let place = old_place(kind);
-    let mut at = HEADER;
-    let mut left = n;
-    while m <= left {
-        let best = find_shared(old, at, left, kind, m, read_old_set(old, at + place), low);
-        if 0 < best {
-            return true;
+    // Whether the rows are as a sound image may hold them.
+    pub(crate) fn are_proper(&self) -> bool
+        ensures { result ≡ proper_rows window last_tick self.now }
+    {
+        for k in 0..self.len() {
+            if !is_proper_set(self.set(k, ECHO), Node::WINDOW, Node::LAST_TICK) {
+                return false;
+            }
+            if !is_proper_set(self.set(k, INIT), Node::WINDOW, Node::LAST_TICK) {
+                return false;
+            }
         }
-        at += OLD_ROW;
-        left -= 1;
+        true
     }
-    false
-}
 
-// Whether the n old rows are as a sound image may hold them.
-pub(crate) fn are_old_proper(old: &[u8], n: usize) -> bool
-    requires { image_size old_layout n ≤ length old.now }
-    ensures { result ≡ proper_rows window last_tick (old_rows n old.now) }
-{
-    let mut at = HEADER;
-    let mut left = n;
-    while 0 < left {
-        let echo = read_old_set(old, at + ECHO_PLACE);
-        if !is_proper_set(echo, Node::WINDOW, Node::LAST_TICK) {
-            return false;
-        }
-        let init = read_old_set(old, at + OLD_INIT_PLACE);
-        if !is_proper_set(init, Node::WINDOW, Node::LAST_TICK) {
-            return false;
-        }
-        at += OLD_ROW;
-        left -= 1;
-    }
-    true
-}
+    // ---- asked for a node: whether a rule can fire
 
-// R1 or R2 over old rows: echo k is unsent, and (init, k) or (echo, k) is held by f + 1.
-fn can_echo(old: &[u8], node: Node) -> bool
-    requires { image_size old_layout node.lines ≤ length old.now }
-    ensures { result ≡ may_echo node (old_rows node.lines old.now) }
-{
-    let n = node.lines as usize;
-    let k = node.tick;
-    let f = node.faults as usize;
-    let enough = f + 1;
-    if node.sent < k {
-        let inits = count_old(old, HEADER, n, INIT, k);
-        if enough <= inits {
-            return true;
-        }
-        let echoes = count_old(old, HEADER, n, ECHO, k);
-        if enough <= echoes {
-            return true;
-        }
+    // R1 or R2: echo k is unsent, and (init, k) or (echo, k) is held by f + 1.
+    fn can_echo(&self, node: Node) -> bool
+        ensures { result ≡ may_echo node self.now }
+    {
+        let k = node.tick;
+        let many = enough(node);
+        node.sent < k && (many <= self.count(INIT, k) || many <= self.count(ECHO, k))
     }
-    false
-}
 
-// R3 over old rows: (echo, k) is held by n - f, and k is below the last tick.
-fn can_tick(old: &[u8], node: Node) -> bool
-    requires { (image_size old_layout node.lines ≤ length old.now) × (node.faults ≤ node.lines) }
-    ensures { result ≡ can_r3 window last_tick node (old_rows node.lines old.now) }
-{
-    let n = node.lines as usize;
-    let k = node.tick;
-    let enough = n - node.faults as usize;
-    if k < Node::LAST_TICK {
-        return enough <= count_old(old, HEADER, n, ECHO, k);
+    // R3: (echo, k) is held by n - f, and k is below the last tick.
+    fn can_tick(&self, node: Node) -> bool
+        requires { node.faults ≤ node.lines }
+        ensures { result ≡ can_r3 window last_tick node self.now }
+    {
+        let most = (node.lines - node.faults) as usize;
+        node.tick < Node::LAST_TICK && most <= self.count(ECHO, node.tick)
     }
-    false
-}
 
-// R4 over old rows: a tick above k + 1 whose echo is held by f + 1.
-fn can_jump(old: &[u8], node: Node) -> bool
-    requires { image_size old_layout node.lines ≤ length old.now }
-    ensures { result ≡ ltb 0 (jump_to window node (old_rows node.lines old.now)) }
-{
-    let n = node.lines as usize;
-    let enough = node.faults as usize + 1;
-    is_any_shared(old, n, ECHO, enough, node.tick as u64 + 2)
-}
+    // R4: a tick above k + 1 whose echo is held by f + 1.
+    fn can_jump(&self, node: Node) -> bool
+        ensures { result ≡ ltb 0 (jump_to window node self.now) }
+    {
+        self.is_any_shared(ECHO, enough(node), node.tick as u64 + 2)
+    }
 
-// R5 over old rows: passive, and a tick whose init is held by f + 1.
-fn can_wake(old: &[u8], node: Node) -> bool
-    requires { image_size old_layout node.lines ≤ length old.now }
-    ensures { result ≡ ltb 0 (wake_at window node (old_rows node.lines old.now)) }
-{
-    let n = node.lines as usize;
-    let enough = node.faults as usize + 1;
-    if node.mode == 0 {
-        return is_any_shared(old, n, INIT, enough, 0);
+    // R5: passive, and a tick whose init is held by f + 1.
+    fn can_wake(&self, node: Node) -> bool
+        ensures { result ≡ ltb 0 (wake_at window node self.now) }
+    {
+        node.mode == 0 && self.is_any_shared(INIT, enough(node), 0)
     }
-    false
-}
 
-// Whether no rule can fire on the old rows.
-pub(crate) fn is_old_at_rest(old: &[u8], node: Node) -> bool
-    requires { (image_size old_layout node.lines ≤ length old.now) × (node.faults ≤ node.lines) }
-    ensures { result ≡ at_rest (first_rule window last_tick (old_rows node.lines old.now) node) }
-{
-    if can_echo(old, node) {
-        return false;
+    // Whether no rule can fire.
+    pub(crate) fn is_at_rest(&self, node: Node) -> bool
+        requires { node.faults ≤ node.lines }
+        ensures { result ≡ at_rest (first_rule window last_tick self.now node) }
+    {
+        !(self.can_echo(node) || self.can_tick(node) || self.can_jump(node) || self.can_wake(node))
     }
-    if can_tick(old, node) {
-        return false;
-    }
-    if can_jump(old, node) {
-        return false;
-    }
-    !can_wake(old, node)
 }

@@ -9,6 +9,6 @@ pub mod Places
 pub mod Ranges
 pub mod Ranks
 pub mod Signs
-pub mod Steps
+pub mod Chains
 pub mod Theorems
 pub mod Told

@@ -1,22 +1,22 @@
 -- Laws of the middle: no order of readings enters, it lies between two good differences, and a counter that is turned on changes nothing.
 -- Assumes nothing.
-use Rattle.std.proofs.Common.{◌≡◌, ℕ, ◌+◌, ◌-◌, ◌*◌, ◌<◌, ◌≤◌, Bool, true, false, not, List, [], ◌∷◌, map, length, ℤ, pos, negsuc, ◌+ℤ◌, sym, refl, ap, ◌∙◌, ap₂, arith, le-ltb}
+use Rattle.std.proofs.Common.{◌≡◌, ℕ, ◌+◌, ◌-◌, ◌*◌, ◌<◌, ◌≤◌, Bool, true, false, not, List, [], ◌∷◌, map, length, ℤ, ◌+ℤ◌, sym, refl, ap, ◌∙◌, ap₂, arith}
 use mathlib.Core.List.Permᴰ
 use mathlib.Core.List.{Memᴰ, Permᴰ}
+use Rattle.std.proofs.lemmas.Int.{ints}
 use lib.ListN.{length-map}
-use lib.Signed.{mag, lt_z}
+use lib.Signed.{lt_z}
 use borrow.Author.Tests.{not-true}
 use Rattle.forms.specs.Column.{how_many}
 use Rattle.forms.proofs.Columns.{passing_rest}
 use Rattle.forms.proofs.Order.{length_order}
-use Rattle.correction.specs.Counter.{turn, half, apart, signed, difference, differences}
+use Rattle.correction.specs.Counter.{turn, apart, signed, difference, differences}
 use Rattle.correction.specs.Good.{positions, GoodAt, difference_at, Between, turned_by}
 use Rattle.correction.specs.Middle.{least, ranked, lowest, highest, half_down, middle}
 use Rattle.correction.proofs.Counters.{difference_range}
 use Rattle.correction.proofs.Places.{good_one}
-use Rattle.correction.proofs.Ranges.{ranked_range}
 use Rattle.correction.proofs.Ranks.{ranked_order, ranked_mono, ranked_few, ranked_enough}
-use Rattle.correction.proofs.Signs.{most_most, neither_less, at_most, tested, half_from, half_to}
+use Rattle.correction.proofs.Signs.{half_from, half_to}
 
 -- ---- in another order
 
@@ -51,11 +51,7 @@ module _ (more expected : ℕ) (fits : expected < turn) where
 -- no difference is less than the least that there is
 pub inside : (e : ℕ) (readings : List ℕ) (d : ℤ) → Memᴰ d (differences e readings) → lt_z d least ≡ false
 inside e [] d m = elim m [ ]
-inside e (r ∷ rs) d (Memᴰ.head h) = ap (λ (z : ℤ). lt_z z least) h ∙ floor (difference r e) (difference_range r e)
-  where
-    floor : (z : ℤ) → mag z < half → lt_z z least ≡ false
-    floor (pos a) p = refl
-    floor (negsuc a) p = le-ltb (half - 1) a (omega arith)
+inside e (r ∷ rs) d (Memᴰ.head h) = sym (omega (arith, ints, h, difference_range r e))
 inside e (r ∷ rs) d (Memᴰ.tail m) = inside e rs d m
 
 module _ (f e : ℕ) (readings : List ℕ) (enough : 2 * f + 1 ≤ length readings) where
@@ -76,11 +72,11 @@ module _ (f e : ℕ) (readings : List ℕ) (enough : 2 * f + 1 ≤ length readin
 
   middle_from : lt_z (middle f ds) low ≡ false
   unfolding middle
-  middle_from = half_from half low high (ranked_range f e readings) (ranked_range (length ds - 1 - f) e readings) low_high
+  middle_from = half_from low high low_high
 
   middle_to : lt_z high (middle f ds) ≡ false
   unfolding middle
-  middle_to = half_to half low high (ranked_range f e readings) (ranked_range (length ds - 1 - f) e readings) low_high
+  middle_to = half_to low high low_high
 
   module _ (bad : ℕ → Bool) (few : how_many bad (positions (length readings)) ≤ f) where
     -- more than f are not above the lowest that is left, and more than f are not below the highest
@@ -102,22 +98,19 @@ module _ (f e : ℕ) (readings : List ℕ) (enough : 2 * f + 1 ≤ length readin
 
     pub middle_between : Between bad e readings (middle f ds)
     middle_between =
-        let m = middle f ds in
         let a = difference_at e readings good_low.0 in
         let b = difference_at e readings good_high.0 in
         record {
           low = good_low.0;
           low_good = good_low.1;
-          from_low = at_most a m (most_most a low m (not-true (lt_z low a) good_low.2) middle_from);
+          from_low = omega (arith, ints, not-true (lt_z low a) good_low.2, middle_from);
           high = good_high.0;
           high_good = good_high.1;
-          to_high = at_most m b (most_most m high b middle_to (not-true (lt_z b high) good_high.2));
+          to_high = omega (arith, ints, not-true (lt_z b high) good_high.2, middle_to);
         }
 
 -- a number between good ones that are all the same is theirs
 pub agreed : (bad : ℕ → Bool) (e : ℕ) (readings : List ℕ) (z d : ℤ) →
     Between bad e readings z → ((i : ℕ) → GoodAt bad readings i → difference_at e readings i ≡ d) → z ≡ d
 agreed bad e readings z d b same =
-    neither_less z d
-    (ap (lt_z z) (sym (same b.low b.low_good)) ∙ tested (difference_at e readings b.low) z b.from_low)
-    (ap (λ (x : ℤ). lt_z x z) (sym (same b.high b.high_good)) ∙ tested z (difference_at e readings b.high) b.to_high)
+    omega (arith, ints, same b.low b.low_good, b.from_low, same b.high b.high_good, b.to_high)

@@ -1,12 +1,12 @@
 -- The range of differences: whatever is kept, the greatest of some is one of them or the least that there is.
 -- Assumes nothing.
-use Rattle.std.proofs.Common.{◌≡◌, ℕ, zero, suc, ◌-◌, ◌<◌, Bool, true, false, cond, ◌&&◌, leb, List, [], ◌∷◌, length, ℤ, pos, negsuc, ◌+ℤ◌, neg_ℤ, ◌≤ℤ◌, arith, le→leb, w64, to_z, of_z}
-use lib.Signed.{mag, lt_z, le_z_yes}
-use mir.ValLaws.{to_z-of_z}
+use Rattle.std.proofs.Common.{ℕ, ◌-◌, ◌<◌, Bool, true, false, cond, ◌&&◌, leb, List, [], ◌∷◌, length, ℤ, pos, negsuc, ◌+ℤ◌, neg_ℤ, ◌≤ℤ◌, arith}
+use Rattle.std.proofs.lemmas.Int.{ints}
+use lib.Signed.{mag, lt_z}
 use Rattle.correction.specs.Counter.{half, difference, differences}
 use Rattle.correction.specs.Middle.{below, greatest_of, ranked, lowest, highest, middle}
 use Rattle.correction.proofs.Counters.{difference_range}
-use Rattle.correction.proofs.Halves.{mag_sum, mag_half, mag_neg}
+use Rattle.correction.proofs.Halves.{mag_sum, mag_half}
 
 greatest_range : (kept : ℤ → Bool) (e : ℕ) (readings : List ℕ) → mag (greatest_of kept (differences e readings)) < half
 unfolding greatest_of
@@ -22,12 +22,7 @@ greatest_range kept e (r ∷ rs) =
 pub ranked_range : (k e : ℕ) (readings : List ℕ) → mag (ranked k (differences e readings)) < half
 ranked_range k e readings = greatest_range (λ d. leb (below d (differences e readings)) k) e readings
 
--- so the machine reads it back from its bits
-pub ranked_reread : (k e : ℕ) (readings : List ℕ) →
-    to_z w64 (of_z w64 (ranked k (differences e readings))) ≡ ranked k (differences e readings)
-ranked_reread k e readings = to_z-of_z w64 (ranked k (differences e readings)) (record { sfits = omega (arith, ranked_range k e readings) })
-
--- and so is the middle
+-- and the middle lies within it
 pub middle_range : (f e : ℕ) (readings : List ℕ) → mag (middle f (differences e readings)) < half
 unfolding middle
 middle_range f e readings =
@@ -36,16 +31,6 @@ middle_range f e readings =
     mag_half (low +ℤ high) half
     (mag_sum low high half (ranked_range f e readings) (ranked_range (length (differences e readings) - 1 - f) e readings))
 
--- of which the negative is read back too
-pub opposite_reread : (f e : ℕ) (readings : List ℕ) →
-    let z = neg_ℤ (middle f (differences e readings)) in
-    to_z w64 (of_z w64 z) ≡ z
-opposite_reread f e readings =
-    let z = middle f (differences e readings) in
-    to_z-of_z w64 (neg_ℤ z) (record { sfits = omega (arith, mag_neg z half (middle_range f e readings)) })
-
--- one more above 0 than below it
+-- the negative of such a number: one more above 0 than below it
 pub opposite_range : (m : ℤ) → mag m < half → (negsuc 2147483646 ≤ℤ neg_ℤ m) × (neg_ℤ m ≤ℤ pos half)
-opposite_range (pos zero) p = (le_z_yes tt, le_z_yes tt)
-opposite_range (pos (suc a)) p = (le_z_yes (le→leb a 2147483646 (omega arith)), le_z_yes tt)
-opposite_range (negsuc a) p = (le_z_yes tt, le_z_yes (le→leb (suc a) half (omega arith)))
+opposite_range m p = (omega (arith, ints), omega (arith, ints))

@@ -23,7 +23,7 @@ never false p q = absurd (false≢true p)
 
 module _ (kept : ℤ → Bool) where
   -- it is not less than the least that there is
-  greatest_floor : (ds : List ℤ) → lt_z (greatest_of kept ds) least ≡ false
+  pub greatest_floor : (ds : List ℤ) → lt_z (greatest_of kept ds) least ≡ false
   unfolding greatest_of
   greatest_floor [] = refl
   greatest_floor (d ∷ ds) = go (lt_z (greatest_of kept ds) d) (kept d) refl (greatest_floor ds)

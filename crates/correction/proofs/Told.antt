@@ -1,14 +1,26 @@
 -- Laws of the call: what number 0 says of n, f and the readings, and the answer in either case.
 -- Assumes nothing.
-use Rattle.std.proofs.Common.{◌≡◌, ℕ, ◌+◌, ◌*◌, ◌≤◌, Bool, true, false, cond, not, eqb, List, length, pos, negsuc, neg_ℤ, ◌≤ℤ◌, sym, refl, ap, ◌∙◌, arith, eq-eqb, ne_eqb, eqb-true}
+use Rattle.std.proofs.Common.{◌≡◌, ℕ, ◌+◌, ◌-◌, ◌*◌, ◌≤◌, Bool, true, false, cond, not, eqb, List, length, pos, negsuc, neg_ℤ, ◌≤ℤ◌, sym, refl, ap, ◌∙◌, arith, eq-eqb, ne_eqb, eqb-true}
 use native.Mathlib.Decide.{ℕ_discrete}
+use lib.ListN.{length-map}
 use lib.Signed.{le_z_yes}
+use borrow.Author.Tests.{eqb-false}
+use Rattle.forms.specs.Number.{number_of as roster_number_of}
 use Rattle.forms.specs.Roster.{limits_then}
 use Rattle.forms.proofs.Rosters.{limits_full, limits_taken}
-use Rattle.correction.specs.Counter.{half, differences}
+use Rattle.forms.proofs.Told.{refusal as roster_refusal}
+use Rattle.correction.specs.Counter.{half, difference, differences}
 use Rattle.correction.specs.Correct.{Corrected, correct_number, corrected}
 use Rattle.correction.specs.Middle.{middle}
+use Rattle.correction.specs.Number.{number_of}
+use Rattle.correction.specs.declared.refusal.Refusal.{Refusal}
+use Rattle.correction.specs.declared.refusal.Refusal.TheVariants.{Roster, Readings}
 use Rattle.correction.proofs.Ranges.{middle_range, opposite_range}
+
+-- no refusal has number 0
+pub refusal : (why : Refusal) → number_of why ≡ 0 → ⊥
+refusal (Roster why) z = eqb-false (roster_number_of why) 0 (roster_refusal why) z
+refusal Readings z = absurd (omega arith)
 
 -- ---- the number
 
@@ -40,6 +52,10 @@ module _ (n f : ℕ) (readings : List ℕ) (expected : ℕ) where
 
   abbrev answer : Corrected
   answer = corrected n f readings expected
+
+  -- the rank of the highest that is left
+  pub highest_rank : number ≡ 0 → n - 1 - f ≡ length (differences expected readings) - 1 - f
+  highest_rank z = omega (arith, taken_count n f (length readings) z, length-map readings (λ (r : ℕ). difference r expected))
 
   pub corrected_taken : number ≡ 0 → answer ≡ record { number = 0; correction = neg_ℤ (middle f (differences expected readings)) }
   unfolding corrected

@@ -4,4 +4,5 @@ pub mod Correct
 pub mod Counter
 pub mod Good
 pub mod Middle
+pub mod Number
 pub mod Table

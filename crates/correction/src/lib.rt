@@ -5,3 +5,4 @@
 pub mod calls;
 pub mod counter;
 pub mod middle;
+pub mod refusal;

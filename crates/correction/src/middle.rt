@@ -13,34 +13,27 @@ const LEAST: i64 = -2_147_483_648;
 fn below(readings: &[u32], expected: u32, d: i64) -> usize
     ensures { result ≡ Middle·below d (differences expected readings.now) }
 {
-    let mut found: usize = 0;
-    let mut at = readings.len();
-    while 0 < at {
-        at -= 1;
-        let other = difference(readings[at], expected);
-        if other < d {
-            found += 1;
-        }
-    }
-    found
+    readings
+        .iter()
+        .filter(|r| difference(**r, expected) < d)
+        .count()
 }
 
-// The difference of rank k: the greatest that has at most k below it.
+// The difference of rank k: the greatest that has at most k below it. What is below is counted only for one above the best so far.
 pub(crate) fn ranked(readings: &[u32], expected: u32, k: usize) -> i64
     ensures { result ≡ Middle·ranked k (differences expected readings.now) }
 {
-    let mut best = LEAST;
-    let mut at = readings.len();
-    while 0 < at {
-        at -= 1;
-        let d = difference(readings[at], expected);
-        if best < d {
-            if below(readings, expected, d) <= k {
-                best = d;
+    readings
+        .iter()
+        .copied()
+        .map(|r| difference(r, expected))
+        .fold(LEAST, |best, d| {
+            if best < d && below(readings, expected, d) <= k {
+                d
+            } else {
+                best
             }
-        }
-    }
-    best
+        })
 }
 
 // The negative of the middle of two differences: their sum is halved downwards, and then negated. The caller hands over numbers in the

@@ -1,10 +1,11 @@
 // A case of the input: a head, the label, and the bytes that the call is given. The head has the call's number and the length of
 // the label, in two bytes each, the length of the bytes, in four, and what `Case` has; all of it big-endian.
 // tests/model/edges.py writes it.
-ghost use Rattle.std.specs.Prelude.{◌≤◌, IfOk, length};
+ghost use Rattle.std.specs.Prelude.{◌≤◌, ◌<◌, IfOk, IfSome, length};
 
 use crate::set::WINDOW;
 use crate::{field, mask, read, row, say, set, write};
+use evidence::list::Rows;
 use evidence::rows::ROW;
 use fields::field::{half, long, word};
 use forms::form::read_serial;
@@ -51,7 +52,8 @@ fn head(b: &[u8]) -> Case
     }
 }
 
-// Makes a call of a mask at a place of it, and prints what came back.
+// Makes a call of a mask at a place of it, and prints what came back. The input numbers the calls, here as in the three functions below:
+// an enum of them would say each twice, where it is made of a number and where it is taken.
 fn call_mask(rt: &impl Print, number: u32, m: Mask, place: u32) -> io::Result<()> {
     match number {
         16 => mask::store(rt, m),
@@ -67,23 +69,28 @@ fn call_mask(rt: &impl Print, number: u32, m: Mask, place: u32) -> io::Result<()
 
 // Makes a call of a set, or of the crates `evidence` or `search`, and prints what came back. Rows are as many as the bytes have.
 fn call_evidence(rt: &impl Print, number: u32, case: Case, b: &[u8]) -> io::Result<()> {
-    let held = case.mask;
     let s = Ticks {
         top: case.top,
-        mask: held,
+        mask: case.mask,
     };
-    let n = b.len() / ROW;
-    let m = case.count as usize;
     match number {
         8 => set::show(rt, Ticks::none()),
         9 => set::show(rt, s.after(WINDOW, case.kind, case.tick)),
-        10 => say::number(rt, s.holds(WINDOW, case.tick) as u64),
+        10 => say::number(rt, u64::from(s.holds(WINDOW, case.tick))),
         11 => set::show_proper(rt, s),
         12 => row::show(rt, b),
-        13 => row::find(rt, case.serial, b),
-        14 => row::ask(rt, case.kind, case.tick, m, b),
-        15 => say::number(rt, find_greatest(b, 0, n, case.kind, WINDOW, m, case.value)),
-        _ => call_mask(rt, number, held, case.count),
+        _ => call_rows(rt, number, case, &Rows::new(b, 0, b.len() / ROW)),
+    }
+}
+
+// Makes a call of rows, or of a mask, and prints what came back.
+fn call_rows(rt: &impl Print, number: u32, case: Case, rows: &Rows) -> io::Result<()> {
+    let m = case.count as usize;
+    match number {
+        13 => row::find(rt, case.serial, rows),
+        14 => row::ask(rt, case.kind, case.tick, m, rows),
+        15 => say::tick(rt, find_greatest(rows, case.kind, WINDOW, m, case.value)),
+        _ => call_mask(rt, number, case.mask, case.count),
     }
 }
 
@@ -96,25 +103,26 @@ fn call(rt: &impl Print, number: u32, case: Case, b: &[u8]) -> io::Result<()> {
         3 => read::form(rt, b),
         4 => say::number(rt, read_serial(b, case.value as usize) as u64),
         5 => read::frame(rt, case.last, b),
-        6 | 7 => write::run(rt, number == 7, case, b),
+        6 => write::form(rt, case, b),
+        7 => write::frame(rt, case),
         _ => call_evidence(rt, number, case, b),
     }
 }
 
-// Runs the first case and prints its line. How many bytes the case has, or 0 where it is cut short.
-pub(crate) fn run(rt: &impl Print, b: &[u8]) -> io::Result<usize>
-    ensures { IfOk result (λ used. used ≤ length b.now) }
+// Runs the first case, prints its line, and gives what stands behind the case; nothing where it is cut short.
+pub(crate) fn run<'a>(rt: &impl Print, b: &'a [u8]) -> io::Result<Option<&'a [u8]>>
+    ensures { IfOk result (λ told. IfSome told (λ behind. length behind.now < length b.now)) }
 {
     if b.len() < HEAD {
-        return Ok(0);
+        return Ok(None);
     }
     let start = HEAD + half(b, 2) as usize;
     let end = start + word(b, 4) as usize;
     if b.len() < end {
-        return Ok(0);
+        return Ok(None);
     }
     rt.write_all(&b[HEAD..start])?;
     call(rt, half(b, 0), head(b), &b[start..end])?;
     say::end(rt)?;
-    Ok(end)
+    Ok(Some(&b[end..]))
 }

@@ -18,15 +18,15 @@ use text::input::read_full;
 // Bytes that are read at most.
 const MOST: usize = 65_536;
 
-// Runs one case after the other, up to the first that is cut short.
+// Runs one case after the other, up to the first that is cut short. (Program `trial` goes through its steps in the same way; the two share
+// no crate that is only for tests, and four lines are not worth one.)
 fn run_all(rt: &impl Print, b: &[u8]) -> io::Result<()> {
-    let mut at = 0;
-    while at < b.len() {
-        let used = case::run(rt, &b[at..])?;
-        if used == 0 {
+    let mut rest = b;
+    while !rest.is_empty() {
+        let Some(behind) = case::run(rt, rest)? else {
             return say::bad(rt);
-        }
-        at += used;
+        };
+        rest = behind;
     }
     Ok(())
 }

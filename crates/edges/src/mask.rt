@@ -13,7 +13,7 @@ pub(crate) fn store(rt: &impl Print, mask: Mask) -> io::Result<()> {
 
 pub(crate) fn bit(rt: &impl Print, mask: Mask, i: u32) -> io::Result<()> {
     if i < Mask::BITS {
-        say::number(rt, mask.bit(i) as u64)
+        say::number(rt, u64::from(mask.bit(i)))
     } else {
         say::bad(rt)
     }

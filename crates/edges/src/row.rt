@@ -1,10 +1,10 @@
 // Rows in lent bytes: four rows with frames credited to their senders, where a serial stands, and whether m rows hold a tick.
 use crate::say;
 use crate::set::WINDOW;
-use evidence::early::decide;
-use evidence::rows::{Found, ROW, credit_row, find_row};
+use evidence::list::Rows;
+use evidence::rows::{ROW, credit_row};
 use fields::field::word;
-use forms::column::count_word;
+use forms::column::Column;
 use std::io;
 
 // The rows, and their bytes.
@@ -17,17 +17,15 @@ const CREDIT: usize = 12;
 
 // A serial that stands twice is not credited: credit_row asks for a roster without twins.
 fn credit(rows: &mut [u8; SIZE], serial: u32, kind: u32, tick: u32) {
-    if count_word(rows, 0, ROW, LINES, serial) <= 1 {
+    if Column::new(rows, 0, ROW, LINES).count(serial) <= 1 {
         credit_row(rows, 0, LINES, WINDOW, serial, kind, tick);
     }
 }
 
 // Credits the frames in b, and shows the rows.
 fn credit_all(rt: &impl Print, rows: &mut [u8; SIZE], b: &[u8]) -> io::Result<()> {
-    let mut at = 0;
-    while at + CREDIT <= b.len() {
-        credit(rows, word(b, at), word(b, at + 4), word(b, at + 8));
-        at += CREDIT;
+    for frame in b.chunks_exact(CREDIT) {
+        credit(rows, word(frame, 0), word(frame, 4), word(frame, 8));
     }
     say::bytes(rt, rows)
 }
@@ -42,15 +40,15 @@ pub(crate) fn show(rt: &impl Print, b: &[u8]) -> io::Result<()> {
     credit_all(rt, &mut rows, b)
 }
 
-pub(crate) fn find(rt: &impl Print, serial: u32, rows: &[u8]) -> io::Result<()> {
-    match find_row(rows, 0, rows.len() / ROW, serial) {
-        Found::At(k) => say::number(rt, k as u64),
-        Found::Nowhere => rt.write_all(b" nowhere"),
+pub(crate) fn find(rt: &impl Print, serial: u32, rows: &Rows) -> io::Result<()> {
+    match rows.find(serial) {
+        Some(k) => say::number(rt, k as u64),
+        None => rt.write_all(b" nowhere"),
     }
 }
 
-pub(crate) fn ask(rt: &impl Print, kind: u32, tick: u32, m: usize, rows: &[u8]) -> io::Result<()> {
-    let told = decide(rows, 0, rows.len() / ROW, kind, WINDOW, tick, m);
+pub(crate) fn ask(rt: &impl Print, kind: u32, tick: u32, m: usize, rows: &Rows) -> io::Result<()> {
+    let told = rows.decide(kind, WINDOW, tick, m);
     say::yes_or_no(rt, told.held)?;
     say::number(rt, told.read as u64)
 }

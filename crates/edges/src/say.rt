@@ -1,5 +1,5 @@
 // What a line of output is made of: numbers, masks or bytes with a space before each.
-use forms::answer::Written;
+use forms::answer::Refusal;
 use sets::mask::Mask;
 use std::io;
 
@@ -12,13 +12,18 @@ pub(crate) fn pair(rt: &impl Print, x: u32, y: u32) -> io::Result<()> {
     number(rt, y as u64)
 }
 
-// A mask as one number in hexadecimal, its high word first.
-pub(crate) fn mask(rt: &impl Print, m: Mask) -> io::Result<()> {
-    let high = m.high;
-    let low = m.low;
-    print!(rt; " {high:016x}{low:016x}")
+// A tick that was found as tick + 1, and 0 for none.
+pub(crate) fn tick(rt: &impl Print, t: Option<u32>) -> io::Result<()> {
+    number(rt, t.map_or(0, |t| u64::from(t) + 1))
 }
 
+// A mask as one number in hexadecimal.
+pub(crate) fn mask(rt: &impl Print, m: Mask) -> io::Result<()> {
+    let bits = m.bits;
+    print!(rt; " {bits:032x}")
+}
+
+// By hand: Display prints a bool as true or false.
 pub(crate) fn yes_or_no(rt: &impl Print, yes: bool) -> io::Result<()> {
     if yes {
         rt.write_all(b" yes")
@@ -45,14 +50,24 @@ pub(crate) fn bytes(rt: &impl Print, b: &[u8]) -> io::Result<()> {
     Ok(())
 }
 
+// The number of a refusal, and zeros behind it.
+pub(crate) fn refused(rt: &impl Print, why: Refusal) -> io::Result<()> {
+    pair(rt, u32::from(why), 0)?;
+    pair(rt, 0, 0)
+}
+
 // What a writer answered: number, length written, and the output as it left it.
-pub(crate) fn written(rt: &impl Print, answer: Written, out: &[u8]) -> io::Result<()> {
+pub(crate) fn written(
+    rt: &impl Print,
+    answer: Result<usize, Refusal>,
+    out: &[u8],
+) -> io::Result<()> {
     match answer {
-        Written::Wrote(size) => {
+        Ok(size) => {
             number(rt, 0)?;
             number(rt, size as u64)?;
         }
-        Written::NotWritten(why) => pair(rt, why.number(), 0)?,
+        Err(why) => pair(rt, u32::from(why), 0)?,
     }
     bytes(rt, out)
 }

@@ -18,32 +18,31 @@ const LONGEST: usize = 260;
 // The serials in b.
 fn serials(b: &[u8]) -> [u32; LONGEST] {
     let mut list = [0u32; LONGEST];
-    let mut i = 0;
-    while i < LONGEST {
-        if b.len() < 4 * i + 4 {
-            return list;
-        }
-        list[i] = word(b, 4 * i);
-        i += 1;
+    for (serial, line) in list.iter_mut().zip(b.chunks_exact(4)) {
+        *serial = word(line, 0);
     }
     list
 }
 
-pub(crate) fn run(rt: &impl Print, framed: bool, case: Case, b: &[u8]) -> io::Result<()> {
+pub(crate) fn form(rt: &impl Print, case: Case, b: &[u8]) -> io::Result<()> {
     let room = case.room % (ROOM + 1);
     let mut all = [0xeeu8; ROOM];
-    let out = &mut all[0..room];
-    let answer = if framed {
-        let frame = Frame {
-            kind: case.kind,
-            flag: case.flag,
-            tick: case.tick,
-        };
-        write_frame(frame, case.last, out)
-    } else {
-        let list = serials(b);
-        let n = b.len() / 4 % (LONGEST + 1);
-        write_form(case.count, case.serial, &list[0..n], out)
+    let out = &mut all[..room];
+    let list = serials(b);
+    let n = b.len() / 4 % (LONGEST + 1);
+    let answer = write_form(case.count, case.serial, &list[..n], out);
+    say::written(rt, answer, out)
+}
+
+pub(crate) fn frame(rt: &impl Print, case: Case) -> io::Result<()> {
+    let room = case.room % (ROOM + 1);
+    let mut all = [0xeeu8; ROOM];
+    let out = &mut all[..room];
+    let frame = Frame {
+        kind: case.kind,
+        flag: case.flag,
+        tick: case.tick,
     };
+    let answer = write_frame(frame, case.last, out);
     say::written(rt, answer, out)
 }

@@ -11,17 +11,17 @@ use native.Mathlib.Nat.{zero-mul, suc-mul, mul-zero, mul-one}
 use native.Mathlib.Omega.{arith}
 use borrow.Author.Tests.{lt-ltb, le-ltb, le-leb, lt-leb, eq-eqb, ne_eqb}
 use lib.Dec.{leb, eqb}
-use lib.ListN.{length, take, drop}
+use lib.ListN.{length, get_or, take, drop, length-drop}
 use Rattle.fields.specs.Kind.{ECHO}
 use Rattle.sets.specs.Ticks.{Held, empty, holds, insert, proper}
 use Rattle.sets.proofs.Members.{holds_le, insert_new, insert_top, insert_proper, bare, proper_empty, proper_facts, proper_test}
 use Rattle.evidence.specs.Early.{decided_as, one_more, decide, Open}
 use Rattle.evidence.specs.Holders.{holders}
-use Rattle.evidence.specs.Rows.{Row, row_with, row_size, set_of, place_of_set, set_at, row_at, rows_at, proper_set, proper_rows}
+use Rattle.evidence.specs.Rows.{Row, no_row, row_with, set_of, proper_set, proper_rows}
 use Rattle.evidence.specs.Serials.{serials_in}
 use Rattle.evidence.specs.declared.early.Decided.{Decided}
 use Rattle.evidence.proofs.Columns.{holders_few}
-use Rattle.evidence.proofs.Layouts.{rows_down, length_rows, set_of_row}
+use Rattle.evidence.proofs.Lists.{row_and_rest}
 use Rattle.evidence.proofs.Orders.{holders_order}
 
 -- ---- one step
@@ -31,7 +31,7 @@ abbrev pub read_before : ℕ → Decided → Decided
 read_before k d = decided_as d.held (k + d.read)
 
 module _ (w kind t : ℕ) where
-  decide_yes : (m : ℕ) (rows : List Row) → m ≡ 0 → decide w kind t m rows ≡ decided_as true 0
+  pub decide_yes : (m : ℕ) (rows : List Row) → m ≡ 0 → decide w kind t m rows ≡ decided_as true 0
   unfolding decide
   decide_yes m [] e = rw (eq-eqb m 0 e)
   decide_yes m (row ∷ rows) e = rw (eq-eqb m 0 e)
@@ -47,28 +47,25 @@ module _ (w kind t : ℕ) where
   unfolding decide
   decide_read m row rows p q = rw (ne_eqb m 0 (λ e. omega arith), le-ltb (suc (length rows)) m q)
 
-  -- the same over the bytes, with k rows read before
-  module _ (mb n : ℕ) (b : List ℕ) (i : ℕ) (m k : ℕ) where
-    pub decide_enough : m ≡ 0 → read_before k (decide w kind t m (rows_at mb n b i)) ≡ decided_as true k
-    decide_enough e = ap (read_before k) (decide_yes m (rows_at mb n b i) e) ∙ ap (decided_as true) (omega arith)
+  -- the same with k rows read before
+  module _ (m k : ℕ) (rows : List Row) where
+    pub decide_enough : m ≡ 0 → read_before k (decide w kind t m rows) ≡ decided_as true k
+    decide_enough e = ap (read_before k) (decide_yes m rows e) ∙ ap (decided_as true) (omega arith)
 
-    pub decide_too_few : n < m → read_before k (decide w kind t m (rows_at mb n b i)) ≡ decided_as false k
-    decide_too_few p =
-        ap (read_before k) (decide_no m (rows_at mb n b i) (omega (arith, length_rows mb n b i))) ∙ ap (decided_as false) (omega arith)
+    pub decide_too_few : length rows < m → read_before k (decide w kind t m rows) ≡ decided_as false k
+    decide_too_few p = ap (read_before k) (decide_no m rows p) ∙ ap (decided_as false) (omega arith)
 
-    pub decide_down :
-        0 < m → m ≤ n →
-        read_before k (decide w kind t m (rows_at mb n b i))
-        ≡ read_before (k + 1)
-        (decide w kind t (m - holds w (set_at mb b (i + place_of_set mb kind)) t) (rows_at mb (n - 1) b (i + row_size mb)))
-    decide_down p q =
-        let rows = rows_at mb (n - 1) b (i + row_size mb) in
-        let next : ℕ → Decided = λ x. decide w kind t (m - x) rows in
-        ap (λ (rs : List Row). read_before k (decide w kind t m rs)) (rows_down mb n b i (omega arith))
-        ∙ ap (read_before k)
-        (decide_read m (row_at mb b i) rows p (omega (arith, length_rows mb (n - 1) b (i + row_size mb))))
-        ∙ ap (λ (s : Held). read_before k (one_more (next (holds w s t)))) (set_of_row mb kind b i)
-        ∙ ap (decided_as (next (holds w (set_at mb b (i + place_of_set mb kind)) t)).held) (omega arith)
+  -- and from row k of a list on, which is read
+  pub decide_down :
+      (m k : ℕ) (rows : List Row) → k < length rows → 0 < m → m + k ≤ length rows →
+      read_before k (decide w kind t m (drop k rows))
+      ≡ read_before (k + 1) (decide w kind t (m - holds w (set_of kind (get_or rows k no_row)) t) (drop (k + 1) rows))
+  decide_down m k rows more p q =
+      let rest = drop (k + 1) rows in
+      let next = decide w kind t (m - holds w (set_of kind (get_or rows k no_row)) t) rest in
+      ap (λ (rs : List Row). read_before k (decide w kind t m rs)) (row_and_rest rows k more)
+      ∙ ap (read_before k) (decide_read m (get_or rows k no_row) rest p (omega (arith, length-drop (k + 1) rows)))
+      ∙ ap (decided_as next.held) (omega arith)
 
   -- the way of a question: nothing is lacking, or the rows are too few, or a row is read and the way goes on
   data Way : ℕ → List Row → Type 0 where

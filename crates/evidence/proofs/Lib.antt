@@ -9,6 +9,7 @@ pub mod Frames
 pub mod Greatest
 pub mod Growth
 pub mod Layouts
+pub mod Lists
 pub mod Orders
 pub mod Over
 pub mod Serials

@@ -1,11 +1,9 @@
 -- Questions to a list of rows (01, "One delivery": "held by m" means by at least m distinct serials). They look at rows through
 -- `holds` alone, and each row counts once, so the order of rows decides nothing (proofs/Orders.antt), and proofs/Greatest.antt
 -- shows that the greatest tick is what its name says.
-use Rattle.std.specs.Prelude.{ℕ, zero, suc, ◌+◌, ◌-◌, max, List, [], ◌∷◌, Bool, cond, ◌&&◌, leb, eqb}
+use Rattle.std.specs.Prelude.{ℕ, Option, Some, None, zero, suc, ◌+◌, ◌-◌, max, List, [], ◌∷◌, Bool, cond, ◌&&◌, leb, eqb}
 use Rattle.sets.specs.Ticks.{Held, empty, holds}
 use Rattle.evidence.specs.Rows.{Row, set_of}
-use Rattle.evidence.specs.declared.rows.Found.{Found}
-use Rattle.evidence.specs.declared.rows.Found.TheVariants.{At, Nowhere}
 
 -- how many rows hold (kind, t)
 unfoldable pub holders : ℕ → ℕ → ℕ → List Row → ℕ
@@ -41,6 +39,11 @@ best_among w kind m low all (row ∷ rows) = max (best_of w kind m low all (set_
 unfoldable pub greatest : ℕ → ℕ → ℕ → ℕ → List Row → ℕ
 greatest w kind m low rows = best_among w kind m low rows rows
 
+-- what an answer of the search says
+abbrev pub tick_told : Option ℕ → ℕ
+tick_told (Some t) = suc t
+tick_told None = 0
+
 -- ---- the place of a serial; as place + 1, with 0 for nowhere
 
 abbrev pub one_on : ℕ → ℕ
@@ -52,6 +55,6 @@ place_of serial [] = 0
 place_of serial (row ∷ rows) = cond (eqb row.serial serial) 1 (one_on (place_of serial rows))
 
 -- what an answer of the search says
-abbrev pub found_by : Found → ℕ
-found_by (At k) = suc k
-found_by Nowhere = 0
+abbrev pub place_told : Option ℕ → ℕ
+place_told (Some k) = suc k
+place_told None = 0

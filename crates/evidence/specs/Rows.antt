@@ -5,7 +5,7 @@ use Rattle.std.specs.Prelude.{ℕ, zero, suc, ◌+◌, ◌*◌, List, [], ◌∷
 use Rattle.fields.specs.Field.{field, put_field}
 use Rattle.fields.specs.Kind.{ECHO}
 use Rattle.sets.specs.Sets.{mask_bytes}
-use Rattle.sets.specs.Ticks.{Held, add, proper}
+use Rattle.sets.specs.Ticks.{Held, empty, add, proper}
 
 -- what is held from one sender
 pub record Row : Type 0 where
@@ -15,6 +15,10 @@ pub record Row : Type 0 where
 
 abbrev pub row_with : ℕ → Held → Held → Row
 row_with serial echo init = record { serial = serial; echo = echo; init = init }
+
+-- stands for a row where there is none
+abbrev pub no_row : Row
+no_row = row_with 0 empty empty
 
 -- bytes of a set, and of a row
 abbrev pub set_size : ℕ → ℕ

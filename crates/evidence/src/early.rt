@@ -1,27 +1,10 @@
-// Whether a tick is held by at least m rows, told as early as it can be: no row is read behind the one that decides. These are joints
-// between layers: what they look at has to lie inside the buffer, and the window has to fit a mask, which the node has checked before.
-ghost use Rattle.std.specs.Prelude.{◌≡◌, ◌+◌, ◌*◌, ◌≤◌, length};
+// Whether a tick is held by at least m rows, told as early as it can be: no row is read behind the one that decides. A joint between
+// layers: the window has to fit a mask, which the node has checked before.
+ghost use Rattle.std.specs.Prelude.{◌≡◌, ◌≤◌};
 ghost use Rattle.evidence.specs.Early.{decide};
-ghost use Rattle.evidence.specs.Rows.{set_bytes, row_bytes, set_at, rows_at};
-ghost use Rattle.sets.specs.Sets.{mask_bytes, mask_bits};
-ghost use Rattle.sets.specs.Ticks.{holds};
+ghost use Rattle.sets.specs.Sets.{mask_bits};
 
-use crate::rows::{ROW, set_place};
-use fields::field::word;
-use sets::mask::Mask;
-
-// 1 where the set at place p holds tick t, else 0. Its mask is looked at only where the tick lies in its window.
-fn holds_at(b: &[u8], p: usize, w: u32, t: u32) -> u32
-    requires { (p + set_bytes ≤ length b.now) × (w ≤ mask_bits) }
-    ensures { (result ≡ holds w (set_at mask_bytes b.now p) t) × (result ≤ 1) }
-{
-    let top = word(b, p);
-    if top < t {
-        return 0;
-    }
-    let d = top - t;
-    if d < w { Mask::bit_in(b, p + 4, d) } else { 0 }
-}
+use crate::list::Rows;
 
 // Yes or no, and how many rows were read for it.
 #[derive(Drop)]
@@ -30,34 +13,41 @@ pub struct Decided {
     pub read: usize,
 }
 
-// Whether at least m of the n rows from i on hold (kind, t). As many as n - m may be without it; one more, and the answer is no.
-pub fn decide(b: &[u8], i: usize, n: usize, kind: u32, w: u32, t: u32, m: usize) -> Decided
-    requires { (i + n * row_bytes ≤ length b.now) × (w ≤ mask_bits) }
-    ensures { result ≡ decide w kind t m (rows_at mask_bytes n b.now i) }
-{
-    let place = set_place(kind);
-    if n < m {
-        return Decided {
-            held: false,
-            read: 0,
-        };
-    }
-    let spare = n - m;
-    let mut found: usize = 0;
-    let mut without: usize = 0;
-    let mut at = i;
-    while found < m {
-        if holds_at(b, at + place, w, t) == 1 {
-            found += 1;
-        } else {
-            if spare <= without {
-                let read = found + without + 1;
-                return Decided { held: false, read };
-            }
-            without += 1;
+impl<'a> Rows<'a> {
+    // Whether at least m of the rows hold (kind, t). As many as n - m can be spared; one more without it, and the answer is no.
+    pub fn decide(&self, kind: u32, w: u32, t: u32, m: usize) -> Decided
+        requires { w ≤ mask_bits }
+        ensures { result ≡ decide w kind t m self.now }
+    {
+        let n = self.len();
+        if m == 0 {
+            return Decided {
+                held: true,
+                read: 0,
+            };
         }
-        at += ROW;
+        if n < m {
+            return Decided {
+                held: false,
+                read: 0,
+            };
+        }
+        let mut lacking = m;
+        let mut spare = n - m;
+        for k in 0..n {
+            let read = k + 1;
+            if self.holds(k, kind, w, t) {
+                lacking -= 1;
+                if lacking == 0 {
+                    return Decided { held: true, read };
+                }
+            } else if spare == 0 {
+                return Decided { held: false, read };
+            } else {
+                spare -= 1;
+            }
+        }
+        // with the last row at the latest nothing is lacking, or one row too many is without it
+        unreachable!()
     }
-    let read = found + without;
-    Decided { held: true, read }
 }

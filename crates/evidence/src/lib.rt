@@ -3,4 +3,5 @@
 #![tactic(auto)]
 
 pub mod early;
+pub mod list;
 pub mod rows;

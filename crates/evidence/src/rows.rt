@@ -1,13 +1,14 @@
-// Rows as they lie in an image's bytes, looked at and updated where they lie: nothing is unpacked. Each function takes the whole
-// buffer and a place in it: of a set, or of the first row. These are joints between layers: what they look at has to lie inside the
-// buffer, and the window has to fit a mask, which the node has checked before.
+// A row as it lies in an image's bytes, read and written where it lies: nothing is unpacked. Each function takes the whole buffer and a
+// place in it: of a set, of a row, or of the first row. These are joints between layers: what they look at has to lie inside the buffer,
+// and the window has to fit a mask, which the node has checked before. They take a place and no slice, since what a store promises is the
+// whole buffer afterwards (`put_set`, `put_rows`). Whole lists of rows are looked at by list.rt.
 ghost use Rattle.std.specs.Prelude.{◌≡◌, ◌+◌, ◌*◌, ◌≤◌, ◌<◌, length};
 ghost use Rattle.evidence.specs.Asked.{MayCredit};
-ghost use Rattle.evidence.specs.Holders.{place_of, found_by};
 ghost use Rattle.evidence.specs.Rows.{set_bytes, row_bytes, place_of_set, set_at, put_set, rows_at, row_with, put_row_bytes, put_rows};
-ghost use Rattle.evidence.specs.Rows.{credit, proper_set, proper_rows};
+ghost use Rattle.evidence.specs.Rows.{credit, proper_set};
 ghost use Rattle.sets.specs.Sets.{mask_bytes, mask_bits, held_by};
 
+use crate::list::Rows;
 use fields::field::{put_word, word};
 use fields::kind::ECHO;
 use sets::mask::Mask;
@@ -62,37 +63,13 @@ pub fn put_row(b: &mut [u8], i: usize, serial: u32, echo: Ticks, init: Ticks)
     store_set(b, i + INIT_PLACE, init);
 }
 
-// Where the row of a serial stands among its rows.
-#[derive(Drop)]
-pub enum Found {
-    At(usize),
-    Nowhere,
-}
-
-// The first of the n rows from i on that has this serial.
-pub fn find_row(b: &[u8], i: usize, n: usize, serial: u32) -> Found
-    requires { i + n * row_bytes ≤ length b.now }
-    ensures { found_by result ≡ place_of serial (rows_at mask_bytes n b.now i) }
-{
-    let mut k = 0;
-    let mut at = i;
-    while k < n {
-        if word(b, at) == serial {
-            return Found::At(k);
-        }
-        at += ROW;
-        k += 1;
-    }
-    Found::Nowhere
-}
-
 // Credits the frame (kind, j) to the row of a serial.
 pub fn credit_row(b: &mut [u8], i: usize, n: usize, w: u32, serial: u32, kind: u32, j: u32)
     requires { MayCredit b.old i n w serial }
     ensures { b.new
         ≡ put_rows mask_bytes b.old i (credit w serial kind j (rows_at mask_bytes n b.old i)) }
 {
-    if let Found::At(k) = find_row(b, i, n, serial) {
+    if let Some(k) = Rows::new(b, i, n).find(serial) {
         let at = i + ROW * k + set_place(kind);
         let after = read_set(b, at).after(w, kind, j);
         store_set(b, at, after);
@@ -105,24 +82,4 @@ pub fn is_proper_set(s: Ticks, w: u32, last: u32) -> bool
     ensures { result ≡ proper_set w last (held_by s) }
 {
     if s.top <= last { s.is_proper(w) } else { false }
-}
-
-// Whether the n rows from i on are as a sound image may hold them.
-pub fn are_proper(b: &[u8], i: usize, n: usize, w: u32, last: u32) -> bool
-    requires { (i + n * row_bytes ≤ length b.now) × (w ≤ mask_bits) }
-    ensures { result ≡ proper_rows w last (rows_at mask_bytes n b.now i) }
-{
-    let mut at = i;
-    let mut left = n;
-    while 0 < left {
-        if !is_proper_set(read_set(b, at + ECHO_PLACE), w, last) {
-            return false;
-        }
-        if !is_proper_set(read_set(b, at + INIT_PLACE), w, last) {
-            return false;
-        }
-        at += ROW;
-        left -= 1;
-    }
-    true
 }

@@ -4,7 +4,7 @@
 use mathlib.Core.Path.{◌≡◌, refl, sym, ap, ap₂, ◌∙◌, subst}
 use mathlib.Core.Logic.{◌↔◌}
 use Prim.Native.Nat.{ℕ, zero, suc, ◌+◌, ◌*◌, ◌/◌, ◌%◌, ◌^◌, ◌≤◌, ◌<◌}
-use native.Mathlib.Nat.{add-zero, add-suc, add_assoc, mul_assoc, pow-suc, pow-succ', one-le-pow}
+use native.Mathlib.Nat.{add-zero, add-suc, add_assoc, mul_assoc, pow-suc, pow-succ', one-le-pow, pow-le-pow_right, lt_of_lt_of_le}
 use native.Mathlib.Nat.{div-one, div-div-eq-div-mul, div-lt_iff_lt-mul}
 use native.Mathlib.Decide.{dec_le, ℕ_discrete}
 use native.Mathlib.Omega.{arith}
@@ -29,6 +29,15 @@ unfolding field
 field_lt zero b i h = lit< tt
 field_lt (suc w) b i h =
     subst (λ (m : ℕ). field w b i * 256 + get_or b (i + w) 0 < m) (sym (pow-suc 256 w)) (digits_lt (field_lt w b i h) (h (i + w)))
+
+-- a field of eight bytes at most fits 64 bits
+pub field_fits : (w : ℕ) (b : List ℕ) (i : ℕ) → w ≤ 8 → Bytes b → field w b i < 2 ^ 64
+field_fits w b i p h = lt_of_lt_of_le (field_lt w b i h) (pow-le-pow_right {n = 256} (lit< tt) p)
+
+-- a field of one byte more
+pub field_step : (w : ℕ) (b : List ℕ) (i : ℕ) → field (w + 1) b i ≡ field w b i * 256 + get_or b (i + w) 0
+unfolding field
+field_step w b i = let e : w + 1 ≡ suc w = omega arith in ap (λ (n : ℕ). field n b i) e
 
 -- a field of u + w bytes is the first u, and then the other w
 pub field_join : (u w : ℕ) (b : List ℕ) (i : ℕ) → field (u + w) b i ≡ field u b i * 256 ^ w + field w b (i + u)
@@ -68,6 +77,11 @@ field_zero (suc w) b i = (
 )
 
 -- ---- what a store leaves
+
+-- a store of one byte more
+pub put_step : (w : ℕ) (b : List ℕ) (i v : ℕ) → put_field (w + 1) b i v ≡ set (put_field w b i (v / 256)) (i + w) (v % 256)
+unfolding put_field
+put_step w b i v = let e : w + 1 ≡ suc w = omega arith in ap (λ (n : ℕ). put_field n b i v) e
 
 -- a store of one byte
 pub put_byte : (b : List ℕ) (i v : ℕ) → v < 256 → put_field 1 b i v ≡ set b i v

@@ -1,12 +1,31 @@
 // Big-endian fields in lent bytes. These are joints between layers: each asks that its field lies inside the buffer, which
-// every caller has checked before, so that a field costs its bytes and nothing else.
-ghost use Rattle.std.specs.Prelude.{◌≡◌, ◌+◌, ◌*◌, ◌≤◌, length};
+// every caller has checked before, so that a field costs its bytes and nothing else. They take a place and no slice, since what a store
+// promises is the whole buffer afterwards (`put_field`). The three widths keep names and number types of their own: with one public
+// function over the width each of more than eighty calls would need a cast, and a proof that the number fits.
+ghost use Rattle.std.specs.Prelude.{◌≡◌, ◌+◌, ◌*◌, ◌^◌, ◌≤◌, ◌<◌, length};
 ghost use Rattle.fields.specs.Field.{field, put_field};
 
-fn join(a: u8, b: u8, c: u8, d: u8) -> u32
-    ensures { result ≡ ((a * 256 + b) * 256 + c) * 256 + d }
+// The W bytes at i as a number.
+fn read<const W: usize>(b: &[u8], i: usize) -> u64
+    requires { (i + W ≤ length b.now) × (W ≤ 8) }
+    ensures value { result ≡ field W b.now i }
+    ensures bound { result < 256 ^ W }
 {
-    ((a as u32 * 256 + b as u32) * 256 + c as u32) * 256 + d as u32
+    let mut v: u64 = 0;
+    for k in 0..W {
+        v = v * 256 + b[i + k] as u64;
+    }
+    v
+}
+
+// Writes the low W bytes of v at i.
+fn put<const W: usize>(b: &mut [u8], i: usize, v: u64)
+    requires { (i + W ≤ length b.old) × (W ≤ 8) }
+    ensures { b.new ≡ put_field W b.old i v }
+{
+    for k in 0..W {
+        b[i + k] = ((v >> (8 * (W - 1 - k))) % 256) as u8;
+    }
 }
 
 // The two bytes at i as a number.
@@ -14,7 +33,7 @@ pub fn half(b: &[u8], i: usize) -> u32
     requires { i + 2 ≤ length b.now }
     ensures { result ≡ field 2 b.now i }
 {
-    join(0, 0, b[i], b[i + 1])
+    read::<2>(b, i) as u32
 }
 
 // The four bytes at i as a number.
@@ -22,7 +41,7 @@ pub fn word(b: &[u8], i: usize) -> u32
     requires { i + 4 ≤ length b.now }
     ensures { result ≡ field 4 b.now i }
 {
-    join(b[i], b[i + 1], b[i + 2], b[i + 3])
+    read::<4>(b, i) as u32
 }
 
 // The eight bytes at i as a number.
@@ -30,7 +49,7 @@ pub fn long(b: &[u8], i: usize) -> u64
     requires { i + 8 ≤ length b.now }
     ensures { result ≡ field 8 b.now i }
 {
-    word(b, i) as u64 * 4294967296 + word(b, i + 4) as u64
+    read::<8>(b, i)
 }
 
 // Writes the low two bytes of v at i.
@@ -38,8 +57,7 @@ pub fn put_half(b: &mut [u8], i: usize, v: u32)
     requires { i + 2 ≤ length b.old }
     ensures { b.new ≡ put_field 2 b.old i v }
 {
-    b[i] = (v / 256 % 256) as u8;
-    b[i + 1] = (v % 256) as u8;
+    put::<2>(b, i, v as u64);
 }
 
 // Writes v over the four bytes at i.
@@ -47,10 +65,7 @@ pub fn put_word(b: &mut [u8], i: usize, v: u32)
     requires { i + 4 ≤ length b.old }
     ensures { b.new ≡ put_field 4 b.old i v }
 {
-    b[i] = (v / 256 / 256 / 256 % 256) as u8;
-    b[i + 1] = (v / 256 / 256 % 256) as u8;
-    b[i + 2] = (v / 256 % 256) as u8;
-    b[i + 3] = (v % 256) as u8;
+    put::<4>(b, i, v as u64);
 }
 
 // Writes v over the eight bytes at i.
@@ -58,6 +73,5 @@ pub fn put_long(b: &mut [u8], i: usize, v: u64)
     requires { i + 8 ≤ length b.old }
     ensures { b.new ≡ put_field 8 b.old i v }
 {
-    put_word(b, i, (v / 4294967296) as u32);
-    put_word(b, i + 4, (v % 4294967296) as u32);
+    put::<8>(b, i, v);
 }

@@ -1,19 +1,25 @@
 -- Laws of counts: what a count of those that pass a test means; of a column of words its counts and its pairs line by line, the buckets
 -- by which pairs are looked for, and a column that ascends, of which no number stands twice.
 -- Assumes nothing.
-use mathlib.Core.Path.{◌≡◌, refl, sym, ap, ap₂, subst, ◌∙◌}
-use mathlib.Core.List.{List, [], ◌∷◌, Memᴰ}
+use mathlib.Core.Path.{◌≡◌, refl, sym, ap, subst, ◌∙◌}
+use mathlib.Core.List.{List, [], ◌∷◌, ◌++◌, Memᴰ}
 use mathlib.Core.Bool.{Bool, true, false, not, cond, ◌&&◌, and-eq-true_iff}
-use Prim.Native.Nat.{ℕ, zero, suc, ◌+◌, ◌-◌, ◌≤◌, ◌<◌}
+use Prim.Native.Nat.{ℕ, zero, suc, ◌+◌, ◌-◌, ◌*◌, ◌≤◌, ◌<◌}
+use native.Mathlib.Nat.{suc-mul, mul-le-mul_right}
+use native.Mathlib.Numerals.{add-one}
 use native.Mathlib.Omega.{arith}
 use lib.Dec.{ltb, eqb}
-use lib.ListN.{length, get_or, set}
-use lib.Seq.{get_or-set_same, get_or-set_other}
-use borrow.Author.Tests.{lt-ltb, le-ltb, ltb-true, eqb-true, eq-eqb, ne_eqb}
+use lib.ListN.{length, get_or, set, take}
+use lib.Seq.{get_or-set_same, get_or-set_other, length-take-le}
+use borrow.Author.Tests.{lt-ltb, le-ltb, ltb-true, eqb-true, eqb-false, eq-eqb, ne_eqb}
 use Rattle.fields.specs.Field.{field, words}
 use Rattle.forms.specs.Column.{how_many, count, twins, ascends}
 use Rattle.forms.specs.Tally.{buckets, bucket_of}
-use Rattle.fields.proofs.Words.{words_step, words_end}
+use Rattle.std.specs.List.{range_with_len, AllWithin, HoldsAt}
+use Rattle.std.proofs.lemmas.List.{take_more}
+use Rattle.std.proofs.lemmas.List.FromFn.{length-range_with_len, get_or-range_with_len}
+use mathlib.Core.Logic.{◌≢◌}
+use Rattle.fields.proofs.Words.{length_words}
 
 -- ---- how many pass a test
 
@@ -64,30 +70,90 @@ module _ {A : Type 0} (test : A → Bool) where
       here true t h = rw (h refl) (omega arith)
       here false t h = omega arith
 
+-- ---- a walk over lines
+
+-- what holds of the line at place k of those from a on
+pub line_at : (P : ℕ → Type 0) (a n k line : ℕ) → k < n → line ≡ a + k → HoldsAt P (range_with_len a n) k → P line
+line_at P a n k line p e h = subst P (get_or-range_with_len a n k 0 p ∙ sym e) (h 0)
+
+-- and of each
+pub each_line : (P : ℕ → Type 0) (a n : ℕ) → AllWithin P (range_with_len a n) 0 (length (range_with_len a n)) →
+    (line : ℕ) → a ≤ line → line < a + n → P line
+each_line P a n h line p q =
+    line_at P a n (line - a) line (omega arith) (omega arith)
+    (λ d. h (line - a) d (omega arith) (omega (arith, length-range_with_len a n)))
+
+-- ---- the lines of a column in bytes
+
+module _ (n s : ℕ) (b : List ℕ) (i : ℕ) (inside : i + n * s ≤ length b) where
+  -- the lines in front of one lie where all do
+  pub lines_inside : (k : ℕ) → k ≤ length (words n s b i) → i + k * s ≤ length b
+  lines_inside k p =
+      let q : k ≤ n = omega (arith, length_words n s b i) in
+      omega (arith, mul-le-mul_right {m = k} {n = n} s q)
+
+  -- and so does each line
+  pub line_inside : (k : ℕ) → k < length (words n s b i) → 4 ≤ s → i + k * s + 4 ≤ length b
+  line_inside k p w =
+      let q : suc k ≤ n = omega (arith, length_words n s b i) in
+      omega (arith, suc-mul k s, mul-le-mul_right {m = suc k} {n = n} s q)
+
+pub take_words : (n s : ℕ) (b : List ℕ) (i k : ℕ) → k ≤ n → take k (words n s b i) ≡ words k s b i
+unfolding words
+take_words n s b i zero p = refl
+take_words zero s b i (suc k) p = absurd (omega arith)
+take_words (suc n) s b i (suc k) p = ap (λ (l : List ℕ). field 4 b i ∷ l) (take_words n s b (i + s) k (omega arith))
+
 -- ---- counts
 
-pub count_end : (x n s : ℕ) (b : List ℕ) (i : ℕ) → n ≤ 0 → count x (words n s b i) ≡ 0
+at_most_one : (t : Bool) → cond t 1 0 ≤ 1
+at_most_one true = omega arith
+at_most_one false = omega arith
+
+-- no number stands more often than there are lines
+pub count_le : (x : ℕ) (l : List ℕ) → count x l ≤ length l
 unfolding count
-count_end x n s b i p = ap (count x) (words_end n s b i p)
+count_le x [] = omega arith
+count_le x (y ∷ l) = omega (arith, at_most_one (eqb y x), count_le x l)
 
-module _ (x n s : ℕ) (b : List ℕ) (i : ℕ) (p : 0 < n) where
-  count_step : count x (words n s b i) ≡ cond (eqb (field 4 b i) x) 1 0 + count x (words (n - 1) s b (i + s))
-  unfolding count
-  count_step = ap (count x) (words_step n s b i p)
+-- the number on a line stands in the list
+pub count_at : (l : List ℕ) (k : ℕ) → k < length l → 0 < count (get_or l k 0) l
+unfolding count
+count_at [] k p = absurd (omega arith)
+count_at (x ∷ l) zero p = rw (eq-eqb x x refl) (omega arith)
+count_at (x ∷ l) (suc k) p = omega (arith, count_at l k (omega arith))
 
-  -- the first line holds x
-  pub count_here : field 4 b i ≡ x → count x (words n s b i) ≡ 1 + count x (words (n - 1) s b (i + s))
-  count_here e = rw eq-eqb at count_step
+-- a number that is on no line
+pub count_none : (x : ℕ) (l : List ℕ) → ((k : ℕ) → k < length l → get_or l k 0 ≢ x) → count x l ≡ 0
+unfolding count
+count_none x [] h = refl
+count_none x (y ∷ l) h =
+    omega (arith, ap (λ (t : Bool). cond {A = ℕ} t 1 0) (ne_eqb y x (h 0 (omega arith))), count_none x l (λ k p. h (suc k) (omega arith)))
 
-  -- the first line holds something else
-  pub count_past : (field 4 b i ≡ x → ⊥) → count x (words n s b i) ≡ count x (words (n - 1) s b (i + s))
-  count_past ne = rw ne_eqb at count_step ∙ omega arith
+count_push : (x y : ℕ) (l : List ℕ) → count x (l ++ y ∷ []) ≡ count x l + cond (eqb y x) 1 0
+unfolding count
+count_push x y [] = omega arith
+count_push x y (z ∷ l) = omega (arith, count_push x y l)
 
 -- ---- twins
 
-pub twins_end : (n s : ℕ) (b : List ℕ) (i : ℕ) → n ≤ 0 → twins (words n s b i) ≡ 0
+eqb_turned : (x y : ℕ) → eqb x y ≡ eqb y x
+eqb_turned x y = go (eqb x y) refl
+  where
+    go : (t : Bool) → eqb x y ≡ t → eqb x y ≡ eqb y x
+    go true e = rw (e, eq-eqb y x (sym (eqb-true x y e)))
+    go false e = rw (e, ne_eqb y x (λ d. eqb-false x y e (sym d)))
+
+twins_push : (y : ℕ) (l : List ℕ) → twins (l ++ y ∷ []) ≡ twins l + count y l
+unfolding twins count
+twins_push y [] = refl
+twins_push y (z ∷ l) = omega (arith, count_push z y l, twins_push y l, ap (λ (t : Bool). cond {A = ℕ} t 1 0) (eqb_turned y z))
+
+-- with no more than m lines
+pub twins_le : (m : ℕ) (l : List ℕ) → length l ≤ m → twins l ≤ length l * m
 unfolding twins
-twins_end n s b i p = ap twins (words_end n s b i p)
+twins_le m [] p = omega arith
+twins_le m (x ∷ l) p = omega (arith, suc-mul (length l) m, count_le x l, twins_le m l (omega arith))
 
 -- ---- buckets met: a number whose bucket is not marked is not among those met
 
@@ -103,9 +169,9 @@ unfolding bucket_of
 bucket_lt x = omega arith
 
 -- one more is met, and its bucket marked
-pub met_more : (marks l : List ℕ) (x : ℕ) → length marks ≡ buckets → Met marks l → Met (set marks (bucket_of x) 1) (x ∷ l)
-unfolding count
-met_more marks l x size h y e = rw (ne_eqb x y (λ p. apart (ap bucket_of p))) (omega (arith, h y (sym (other apart) ∙ e)))
+met_push : (marks l : List ℕ) (x : ℕ) → length marks ≡ buckets → Met marks l → Met (set marks (bucket_of x) 1) (l ++ x ∷ [])
+met_push marks l x size h y e =
+    rw (count_push y x l, ne_eqb x y (λ p. apart (ap bucket_of p))) (omega (arith, h y (sym (other apart) ∙ e)))
   where
     -- y is in another bucket, since its own is not marked
     apart : bucket_of x ≡ bucket_of y → ⊥
@@ -117,26 +183,34 @@ met_more marks l x size h y e = rw (ne_eqb x y (λ p. apart (ap bucket_of p))) (
     other : (bucket_of x ≡ bucket_of y → ⊥) → get_or (set marks (bucket_of x) 1) (bucket_of y) 0 ≡ get_or marks (bucket_of y) 0
     other n = get_or-set_other marks (bucket_of x) (bucket_of y) 1 0 (λ p. n (sym p))
 
--- a column of which the line above is added, which holds x: its counts, its twins, and the buckets met
-module _ (n s : ℕ) (b : List ℕ) (i j x : ℕ) (above : j + s ≡ i) (holds : x ≡ field 4 b j) where
-  words_up : words (n + 1) s b j ≡ x ∷ words n s b i
-  words_up =
-      let size : n + 1 - 1 ≡ n = omega arith in
-      words_step (n + 1) s b j (omega arith)
-      ∙ ap₂ (λ (m k : ℕ). field 4 b j ∷ words m s b k) size above
-      ∙ ap (λ (y : ℕ). y ∷ words n s b i) (sym holds)
+-- ---- one line further down: the counts of the lines passed, their twins, and the buckets met
+module _ (l : List ℕ) (k : ℕ) (p : k < length l) where
+  here : ℕ
+  here = get_or l k 0
 
-  pub count_up : (y : ℕ) → count y (words (n + 1) s b j) ≡ cond (eqb x y) 1 0 + count y (words n s b i)
-  unfolding count
-  count_up y = ap (count y) words_up
+  further : take (k + 1) l ≡ take k l ++ here ∷ []
+  unfolding here
+  further = take_more l k 0 p
 
-  pub twins_up : twins (words (n + 1) s b j) ≡ count x (words n s b i) + twins (words n s b i)
-  unfolding twins
-  twins_up = ap twins words_up
+  -- so many lines are few
+  pub passed_le : (x m : ℕ) → length l ≤ m → (count x (take k l) ≤ k) × (twins (take k l) ≤ k * m)
+  passed_le x m q =
+      let size : length (take k l) ≡ k = length-take-le k l (omega arith) in
+      (omega (arith, count_le x (take k l)), rw size at (twins_le m (take k l) (omega arith)))
 
-  pub met_up : (marks : List ℕ) → length marks ≡ buckets → Met marks (words n s b i) →
-      Met (set marks (bucket_of x) 1) (words (n + 1) s b j)
-  met_up marks size h = subst (Met (set marks (bucket_of x) 1)) (sym words_up) (met_more marks (words n s b i) x size h)
+  pub count_more : (x : ℕ) → count x (take (k + 1) l) ≡ count x (take k l) + cond (eqb (get_or l k 0) x) 1 0
+  unfolding here
+  count_more x = ap (count x) further ∙ count_push x (get_or l k 0) (take k l)
+
+  pub twins_more : twins (take (k + 1) l) ≡ twins (take k l) + count (get_or l k 0) (take k l)
+  unfolding here
+  twins_more = ap twins further ∙ twins_push (get_or l k 0) (take k l)
+
+  pub met_more : (marks : List ℕ) → length marks ≡ buckets → Met marks (take k l) →
+      Met (set marks (bucket_of (get_or l k 0)) 1) (take (k + 1) l)
+  unfolding here
+  met_more marks size h =
+      subst (Met (set marks (bucket_of (get_or l k 0)) 1)) (sym further) (met_push marks (take k l) (get_or l k 0) size h)
 
 -- ---- numbers that stand once
 
@@ -164,29 +238,30 @@ count_alone x y (z ∷ u ∷ l) p q r = absurd (omega arith)
 
 -- ---- a column that ascends
 
--- one line, or none
-pub ascends_end : (n s : ℕ) (b : List ℕ) (i : ℕ) → n ≤ 1 → ascends (words n s b i) ≡ true
-unfolding ascends words
-ascends_end zero s b i p = refl
-ascends_end (suc zero) s b i p = refl
-ascends_end (suc (suc n)) s b i p = absurd (omega arith)
+-- the lines in front of line k ascend
+abbrev pub AscendsTo : List ℕ → ℕ → Type 0
+AscendsTo l k = (j : ℕ) → j + 1 < k → get_or l j 0 < get_or l (j + 1) 0
 
-module _ (n s : ℕ) (b : List ℕ) (i : ℕ) (p : 1 < n) where
-  ascends_look : ascends (words n s b i) ≡ (ltb (field 4 b i) (field 4 b (i + s)) && ascends (words (n - 1) s b (i + s)))
-  unfolding ascends
-  ascends_look =
-      let below = words_step (n - 1) s b (i + s) (omega arith) in
-      ap ascends (words_step n s b i (omega arith))
-      ∙ ap (λ (l : List ℕ). ascends (field 4 b i ∷ l)) below
-      ∙ ap (λ (l : List ℕ). ltb (field 4 b i) (field 4 b (i + s)) && ascends l) (sym below)
+pub ascends_all : (l : List ℕ) → AscendsTo l (length l) → ascends l ≡ true
+unfolding ascends
+ascends_all [] h = refl
+ascends_all (x ∷ []) h = refl
+ascends_all (x ∷ y ∷ l) h =
+    rw (lt-ltb x y (h 0 (omega arith)))
+    (ascends_all (y ∷ l) (λ j p. rw (add-one j) (rw (add-one (suc j)) at (h (suc j) (omega arith)))))
 
-  -- the second line is above the first
-  pub ascends_on : field 4 b i < field 4 b (i + s) → ascends (words n s b i) ≡ ascends (words (n - 1) s b (i + s))
-  ascends_on up = ascends_look ∙ rw (lt-ltb (field 4 b i) (field 4 b (i + s)) up)
-
-  -- it is not
-  pub ascends_no : field 4 b (i + s) ≤ field 4 b i → ascends (words n s b i) ≡ false
-  ascends_no down = ascends_look ∙ rw (le-ltb (field 4 b i) (field 4 b (i + s)) down)
+-- one line that is not above the one before it
+pub ascends_not : (l : List ℕ) (j : ℕ) → j + 1 < length l → get_or l (j + 1) 0 ≤ get_or l j 0 → ascends l ≡ false
+unfolding ascends
+ascends_not [] j p q = absurd (omega arith)
+ascends_not (x ∷ []) j p q = absurd (omega arith)
+ascends_not (x ∷ y ∷ l) zero p q = rw (le-ltb x y q)
+ascends_not (x ∷ y ∷ l) (suc j) p q =
+    rw (ascends_not (y ∷ l) j (omega arith) (rw (add-one j) (rw (add-one (suc j)) at q))) (and-false (ltb x y))
+  where
+    and-false : (t : Bool) → (t && false) ≡ false
+    and-false true = refl
+    and-false false = refl
 
 -- what is below the first number of such a list stands nowhere in it
 above_none : (x y : ℕ) (ys : List ℕ) → x < y → ascends (y ∷ ys) ≡ true → count x (y ∷ ys) ≡ 0

@@ -5,6 +5,7 @@ pub mod Faults
 pub mod FrameTrip
 pub mod Frames
 pub mod Groups
+pub mod Marks
 pub mod Meaning
 pub mod Order
 pub mod Rosters

@@ -5,6 +5,7 @@ use mathlib.Core.List.{List}
 use Prim.Native.Nat.{ℕ}
 use mathlib.Core.Bool.{false, cond}
 use lib.Dec.{eqb}
+use Rattle.std.specs.Prelude.{Result, Ok, Err}
 use Rattle.forms.specs.Number.{number_of, verdict_of}
 use Rattle.forms.specs.Form.{FormTold, WriteTold, written_by}
 use Rattle.forms.specs.Form.{told_by as form_by}
@@ -12,14 +13,8 @@ use Rattle.forms.specs.Frame.{FrameTold}
 use Rattle.forms.specs.Frame.{told_by as frame_by}
 use Rattle.forms.specs.declared.answer.Refusal.{Refusal}
 use Rattle.forms.specs.declared.answer.Refusal.TheVariants.{Layout, Limits, Understated, Zero, Twice, Stranger, Room, Shape, Late}
-use Rattle.forms.specs.declared.answer.Verdict.{Verdict}
-use Rattle.forms.specs.declared.answer.Verdict.TheVariants.{Sound, Broken}
-use Rattle.forms.specs.declared.answer.Written.{Written}
-use Rattle.forms.specs.declared.answer.Written.TheVariants.{Wrote, NotWritten}
-use Rattle.forms.specs.declared.form.FormRead.{FormRead}
-use Rattle.forms.specs.declared.form.FormRead.TheVariants as form
-use Rattle.forms.specs.declared.frame.FrameRead.{FrameRead}
-use Rattle.forms.specs.declared.frame.FrameRead.TheVariants as frame
+use Rattle.forms.specs.declared.form.Form.{Form}
+use Rattle.forms.specs.declared.frame.Frame.{Frame}
 use Rattle.forms.proofs.Told.{refusal}
 
 -- the case that a number stands for
@@ -72,49 +67,49 @@ unfolding answer_to
 refused_again case_of taken refused n why some back = rw some (ap refused back)
 
 -- of this layer
-again : {A : Type 0} (taken : A) (refused : Refusal → A) (why : Refusal) → answer_to case_of taken refused (number_of why) ≡ refused why
-again taken refused why = refused_again case_of taken refused (number_of why) why (refusal why) (back why)
+again : {T : Type 0} (taken : T) (why : Refusal) → answer_to case_of (Ok taken) Err (number_of why) ≡ Err why
+again taken why = refused_again case_of (Ok taken) Err (number_of why) why (refusal why) (back why)
 
-judge_of : ℕ → Verdict
-judge_of n = answer_to case_of Sound Broken n
+judge_of : ℕ → Result (Unit {0}) Refusal
+judge_of n = answer_to case_of (Ok tt) Err n
 
-judged : (a : Verdict) → judge_of (verdict_of a) ≡ a
+judged : (a : Result (Unit {0}) Refusal) → judge_of (verdict_of a) ≡ a
 unfolding judge_of answer_to
-judged Sound = refl
-judged (Broken why) = again Sound Broken why
+judged (Ok x) = refl
+judged (Err why) = again tt why
 
-pub one_verdict : (a b : Verdict) → verdict_of a ≡ verdict_of b → a ≡ b
+pub one_verdict : (a b : Result (Unit {0}) Refusal) → verdict_of a ≡ verdict_of b → a ≡ b
 one_verdict = one_answer verdict_of judge_of judged
 
-form_of : FormTold → FormRead
-form_of t = answer_to case_of (form.Taken (record { lines = t.lines; faults = t.faults; own = t.own })) form.Refused t.number
+form_of : FormTold → Result Form Refusal
+form_of t = answer_to case_of (Ok (record { lines = t.lines; faults = t.faults; own = t.own })) Err t.number
 
-form_read : (a : FormRead) → form_of (form_by a) ≡ a
+form_read : (a : Result Form Refusal) → form_of (form_by a) ≡ a
 unfolding form_of answer_to
-form_read (form.Taken x) = refl
-form_read (form.Refused why) = again (form.Taken (record { lines = 0; faults = 0; own = 0 })) form.Refused why
+form_read (Ok x) = refl
+form_read (Err why) = again (record { lines = 0; faults = 0; own = 0 }) why
 
-pub one_form : (a b : FormRead) → form_by a ≡ form_by b → a ≡ b
+pub one_form : (a b : Result Form Refusal) → form_by a ≡ form_by b → a ≡ b
 one_form = one_answer form_by form_of form_read
 
-frame_of : FrameTold → FrameRead
-frame_of t = answer_to case_of (frame.Taken t.frame) frame.Refused t.number
+frame_of : FrameTold → Result Frame Refusal
+frame_of t = answer_to case_of (Ok t.frame) Err t.number
 
-frame_read : (a : FrameRead) → frame_of (frame_by a) ≡ a
+frame_read : (a : Result Frame Refusal) → frame_of (frame_by a) ≡ a
 unfolding frame_of answer_to
-frame_read (frame.Taken x) = refl
-frame_read (frame.Refused why) = again (frame.Taken (record { kind = 0; flag = 0; tick = 0 })) frame.Refused why
+frame_read (Ok x) = refl
+frame_read (Err why) = again (record { kind = 0; flag = 0; tick = 0 }) why
 
-pub one_frame : (a b : FrameRead) → frame_by a ≡ frame_by b → a ≡ b
+pub one_frame : (a b : Result Frame Refusal) → frame_by a ≡ frame_by b → a ≡ b
 one_frame = one_answer frame_by frame_of frame_read
 
-wrote_of : WriteTold → Written
-wrote_of t = answer_to case_of (Wrote t.written) NotWritten t.number
+wrote_of : WriteTold → Result ℕ Refusal
+wrote_of t = answer_to case_of (Ok t.written) Err t.number
 
-written : (a : Written) (out : List ℕ) → (wrote_of (written_by a out) ≡ a) × ((written_by a out).out ≡ out)
+written : (a : Result ℕ Refusal) (out : List ℕ) → (wrote_of (written_by a out) ≡ a) × ((written_by a out).out ≡ out)
 unfolding wrote_of answer_to
-written (Wrote n) out = (refl, refl)
-written (NotWritten why) out = (again (Wrote 0) NotWritten why, refl)
+written (Ok n) out = (refl, refl)
+written (Err why) out = (again 0 why, refl)
 
-pub one_written : (a b : Written) (out other : List ℕ) → written_by a out ≡ written_by b other → (a ≡ b) × (out ≡ other)
+pub one_written : (a b : Result ℕ Refusal) (out other : List ℕ) → written_by a out ≡ written_by b other → (a ≡ b) × (out ≡ other)
 one_written = one_write written_by wrote_of written

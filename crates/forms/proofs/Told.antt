@@ -9,6 +9,8 @@ use native.Mathlib.Omega.{arith}
 use lib.ListN.{length}
 use lib.Dec.{ltb, eqb}
 use borrow.Author.Tests.{eqb-true, eqb-false, not-false}
+use Rattle.std.specs.Prelude.{Result, Err, IsErrAnd}
+use Rattle.std.proofs.lemmas.Result.{err_from_is_err_and}
 use Rattle.fields.specs.Field.{field}
 use Rattle.forms.specs.Form.{serials_place, form_size, lines_of, faults_of, own_of, serials_of, misplaced, form_number}
 use Rattle.forms.specs.Form.{FormTold, form_told, refused_form}
@@ -29,6 +31,10 @@ refusal Stranger = refl
 refusal Room = refl
 refusal Shape = refl
 refusal Late = refl
+
+-- a refusal that `?` passes on is the one that was answered
+pub passed_on : {T : Type 0} {why : Refusal} (r : Result T Refusal) → IsErrAnd r (λ y. y ≡ why) → r ≡ Err why
+passed_on r e = let p = err_from_is_err_and r e in p.1 ∙ ap Err p.2
 
 -- ---- checks one after the other
 

@@ -1,7 +1,7 @@
 -- A list looked at through counts, so that its order decides nothing: how many of it pass a test; of a list of numbers how often one
 -- stands in it, and how many pairs are the same number. The serials of a roster and the pack numbers of a sheet are judged by these. In
 -- bytes such a list is a column: 4 apart in a form, a row apart in an image, an entry apart on a sheet.
-use Rattle.std.specs.Prelude.{ℕ, ◌+◌, ◌*◌, ◌≤◌, List, [], ◌∷◌, Bool, true, cond, ◌&&◌, length, ltb, eqb}
+use Rattle.std.specs.Prelude.{ℕ, ◌+◌, List, [], ◌∷◌, Bool, true, cond, ◌&&◌, ltb, eqb}
 
 -- how many of a list pass a test
 unfoldable pub how_many : {A : Type 0} → (A → Bool) → List A → ℕ
@@ -29,9 +29,3 @@ ascends (x ∷ y ∷ ys) = ltb x y && ascends (y ∷ ys)
 -- the longest column whose pairs are counted: no layout has one as long, and the count of its pairs fits every word
 abbrev pub most_column : ℕ
 most_column = 4096
-
--- what the functions over a column ask of their caller: whole words, inside the bytes
-pub record Column (b : List ℕ) (i stride n : ℕ) : Type 0 where
-  pub whole : 4 ≤ stride
-  pub few : n ≤ most_column
-  pub inside : i + n * stride ≤ length b

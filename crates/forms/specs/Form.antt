@@ -1,14 +1,12 @@
 -- The roster form (01, "Layouts"): byte 0 n, byte 1 f, bytes 2..3 the offset of the serials, always 8, bytes 4..7 the own
 -- serial, then n serials of 4 bytes. What its reader gives and what its writer leaves, for every input.
-use Rattle.std.specs.Prelude.{◌≡◌, ℕ, ◌+◌, ◌-◌, ◌*◌, ◌/◌, Bool, cond, not, ◌||◌, length, get_or, take, ltb, eqb}
+use Rattle.std.specs.Prelude.{◌≡◌, ℕ, ◌+◌, ◌-◌, ◌*◌, ◌/◌, Bool, cond, not, ◌||◌, length, get_or, take, ltb, eqb, Result, Ok, Err}
 use mathlib.Core.List.{List, Permᴰ}
 use Rattle.fields.specs.Field.{field, put_field, words, put_words}
 use Rattle.forms.specs.Number.{number_of}
 use Rattle.forms.specs.Roster.{roster_number}
-use Rattle.forms.specs.declared.answer.Written.{Written}
-use Rattle.forms.specs.declared.answer.Written.TheVariants.{Wrote, NotWritten}
-use Rattle.forms.specs.declared.form.FormRead.{FormRead}
-use Rattle.forms.specs.declared.form.FormRead.TheVariants.{Taken, Refused}
+use Rattle.forms.specs.declared.answer.Refusal.{Refusal}
+use Rattle.forms.specs.declared.form.Form.{Form}
 
 -- where the serials begin
 abbrev pub serials_place : ℕ
@@ -73,9 +71,9 @@ form_told b =
     (refused_form (form_number b))
 
 -- what an answer of the reader says
-abbrev pub told_by : FormRead → FormTold
-told_by (Taken form) = record { number = 0; lines = form.lines; faults = form.faults; own = form.own }
-told_by (Refused why) = refused_form (number_of why)
+abbrev pub told_by : Result Form Refusal → FormTold
+told_by (Ok form) = record { number = 0; lines = form.lines; faults = form.faults; own = form.own }
+told_by (Err why) = refused_form (number_of why)
 
 -- the serial on a line of a form that is taken; 0 of a form that is refused, and past the last line
 unfoldable pub serial_on : List ℕ → ℕ → ℕ
@@ -96,9 +94,9 @@ done_write size out = record { number = 0; written = size; out = out }
 abbrev pub refused_write : ℕ → List ℕ → WriteTold
 refused_write number out = record { number = number; written = 0; out = out }
 
-abbrev pub written_by : Written → List ℕ → WriteTold
-written_by (Wrote count) out = done_write count out
-written_by (NotWritten why) out = refused_write (number_of why) out
+abbrev pub written_by : Result ℕ Refusal → List ℕ → WriteTold
+written_by (Ok count) out = done_write count out
+written_by (Err why) out = refused_write (number_of why) out
 
 -- 7, last, when the output is shorter than what would be written; a refusal changes no byte
 abbrev pub write_told : ℕ → ℕ → List ℕ → List ℕ → WriteTold

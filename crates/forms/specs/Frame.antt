@@ -1,14 +1,13 @@
 -- The frame (01, "Layouts", and 02, A2), 8 bytes: kind (1 init, 2 echo), flag (1 on an answer, which is an echo, else 0), two zero
 -- bytes, tick in 4 bytes. What its reader gives and what its writer leaves, for every input. The last tick is a number of the node's,
 -- so it is a parameter here.
-use Rattle.std.specs.Prelude.{ℕ, ◌+◌, ◌<◌, List, Bool, cond, not, ◌||◌, ◌&&◌, length, get_or, ltb, leb, eqb}
+use Rattle.std.specs.Prelude.{ℕ, ◌+◌, ◌<◌, List, Bool, cond, not, ◌||◌, ◌&&◌, length, get_or, ltb, leb, eqb, Result, Ok, Err}
 use Rattle.fields.specs.Field.{field, put_field}
 use Rattle.fields.specs.Kind.{INIT, ECHO}
 use Rattle.forms.specs.Form.{WriteTold, write_told}
 use Rattle.forms.specs.Number.{number_of}
+use Rattle.forms.specs.declared.answer.Refusal.{Refusal}
 use Rattle.forms.specs.declared.frame.Frame.{Frame}
-use Rattle.forms.specs.declared.frame.FrameRead.{FrameRead}
-use Rattle.forms.specs.declared.frame.FrameRead.TheVariants.{Taken, Refused}
 
 -- bytes of a frame
 abbrev pub frame_size : ℕ
@@ -54,9 +53,9 @@ frame_told last b =
     cond (eqb (frame_number last b) 0) (record { number = 0; frame = frame_at b 0 }) (refused_frame (frame_number last b))
 
 -- what an answer of the reader says
-abbrev pub told_by : FrameRead → FrameTold
-told_by (Taken frame) = record { number = 0; frame = frame }
-told_by (Refused why) = refused_frame (number_of why)
+abbrev pub told_by : Result Frame Refusal → FrameTold
+told_by (Ok frame) = record { number = 0; frame = frame }
+told_by (Err why) = refused_frame (number_of why)
 
 -- ---- the writer
 

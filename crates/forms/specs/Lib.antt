@@ -2,6 +2,7 @@ pub mod Column
 pub mod Form
 pub mod Frame
 pub mod Groups
+pub mod Marks
 pub mod Number
 pub mod Roster
 pub mod Table

@@ -2,7 +2,7 @@
 ghost use Rattle.std.specs.Prelude.{◌≡◌};
 ghost use Rattle.forms.specs.Number.{number_of};
 
-#[derive(Drop)]
+#[derive(Clone, Copy, Debug, PartialEq, Eq)]
 pub enum Refusal {
     // form shorter than 8, offset not 8, or length not 8 + 4n
     Layout,
@@ -24,12 +24,12 @@ pub enum Refusal {
     Late,
 }
 
-impl Refusal {
-    // The number of the paper's table.
-    pub fn number(self) -> u32
-        ensures { result ≡ number_of self }
-    {
-        match self {
+// The number of the paper's table.
+impl From<Refusal> for u32 {
+    ghost from_gives = { λ why n. n ≡ number_of why };
+
+    fn from(why: Refusal) -> u32 {
+        match why {
             Refusal::Layout => 1,
             Refusal::Limits => 2,
             Refusal::Understated => 21,
@@ -41,18 +41,4 @@ impl Refusal {
             Refusal::Late => 11,
         }
     }
-}
-
-// Whether a roster is in order.
-#[derive(Drop)]
-pub enum Verdict {
-    Sound,
-    Broken(Refusal),
-}
-
-// How a writer ended: the bytes written, or why there are none.
-#[derive(Drop)]
-pub enum Written {
-    Wrote(usize),
-    NotWritten(Refusal),
 }

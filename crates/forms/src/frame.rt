@@ -3,7 +3,7 @@ ghost use Rattle.std.specs.Prelude.{◌≡◌, ◌+◌, ◌≤◌, length};
 ghost use Rattle.forms.specs.Form.{written_by};
 ghost use Rattle.forms.specs.Frame.{frame_size, known_head, told_by, frame_told, Narrow, put_frame_bytes, frame_written};
 
-use crate::answer::{Refusal, Written};
+use crate::answer::Refusal;
 use fields::field::{put_word, word};
 use fields::kind::{ECHO, INIT};
 
@@ -16,17 +16,12 @@ pub const BROADCAST: u32 = 0;
 pub const ANSWER: u32 = 1;
 
 // The fields of a frame. The reader gives only a kind and a flag that go together; the writer judges those that it is given.
+// Kind and flag stay numbers: `write_frame` is given any, and `frame_written` says for each what it answers.
 #[derive(Clone, Copy)]
 pub struct Frame {
     pub kind: u32,
     pub flag: u32,
     pub tick: u32,
-}
-
-#[derive(Drop)]
-pub enum FrameRead {
-    Taken(Frame),
-    Refused(Refusal),
 }
 
 // Whether kind and flag go together: an init is a broadcast, an echo a broadcast or an answer.
@@ -42,25 +37,25 @@ fn has_known_head(kind: u32, flag: u32) -> bool
     false
 }
 
-pub fn read_frame(b: &[u8], last: u32) -> FrameRead
+pub fn read_frame(b: &[u8], last: u32) -> Result<Frame, Refusal>
     ensures { told_by result ≡ frame_told last b.now }
 {
     if b.len() != FRAME {
-        return FrameRead::Refused(Refusal::Shape);
+        return Err(Refusal::Shape);
     }
     let kind = b[0] as u32;
     let flag = b[1] as u32;
     if !has_known_head(kind, flag) {
-        return FrameRead::Refused(Refusal::Shape);
+        return Err(Refusal::Shape);
     }
     if b[2] != 0 || b[3] != 0 {
-        return FrameRead::Refused(Refusal::Shape);
+        return Err(Refusal::Shape);
     }
     let tick = word(b, 4);
     if last < tick {
-        return FrameRead::Refused(Refusal::Late);
+        return Err(Refusal::Late);
     }
-    FrameRead::Taken(Frame { kind, flag, tick })
+    Ok(Frame { kind, flag, tick })
 }
 
 // Writes a frame over the bytes from i on: a joint, for writers that have judged kind, flag, tick and room. Kind and flag are the two
@@ -73,18 +68,18 @@ pub fn put_frame(out: &mut [u8], i: usize, frame: Frame)
     put_word(out, i + 4, frame.tick);
 }
 
-pub fn write_frame(frame: Frame, last: u32, out: &mut [u8]) -> Written
+pub fn write_frame(frame: Frame, last: u32, out: &mut [u8]) -> Result<usize, Refusal>
     ensures { written_by result out.new ≡ frame_written last frame out.old }
 {
     if !has_known_head(frame.kind, frame.flag) {
-        return Written::NotWritten(Refusal::Shape);
+        return Err(Refusal::Shape);
     }
     if last < frame.tick {
-        return Written::NotWritten(Refusal::Late);
+        return Err(Refusal::Late);
     }
     if out.len() < FRAME {
-        return Written::NotWritten(Refusal::Room);
+        return Err(Refusal::Room);
     }
     put_frame(out, 0, frame);
-    Written::Wrote(FRAME)
+    Ok(FRAME)
 }

@@ -6,22 +6,20 @@ use mathlib.Core.List.{List, [], ◌++◌, append-nil}
 use Prim.Native.Nat.{ℕ, suc, ◌+◌, ◌-◌, ◌≤◌, ◌<◌}
 use native.Mathlib.Omega.{arith}
 use borrow.Author.Tests.{eq-eqb, ne_eqb}
-use lib.ListN.{get_or}
-use Rattle.fields.specs.Field.{field}
 use Rattle.node.specs.Calls.{Outcome}
-use Rattle.node.specs.Image.{node_of}
 use Rattle.node.specs.declared.layout.Layout.{Layout}
-use Rattle.text.specs.Puts.{Puts}
-use Rattle.logs.specs.Listing.{line, line_room, line_of, event_call, event_lines, call_lines}
+use Rattle.text.specs.Page.{Wrote}
+use Rattle.text.specs.declared.page.Page.{Page}
+use Rattle.logs.specs.Listing.{line_room, line_of, event_call, event_lines, call_lines}
+use Rattle.logs.specs.Played.{text_of, call_line}
+use Rattle.logs.specs.declared.line.Line.{Line}
 use Rattle.logs.specs.Log.{event_size, count_of, events_at}
 
--- a line that shows a call's number and records, and the k and mode of its image, is the call's line
-pub puts_call : {out after : List ℕ} {i next k : ℕ} (e : ℕ) {o called : Outcome} → o ≡ called → k ≡ field 4 o.image 8 →
-    Puts out i (line e o.number o.records k (get_or o.image 2 0)) line_room after next →
-    Puts out i (line_of e called) line_room after next
-unfolding line_of node_of
-puts_call {out} {after} {i} {next} e is shows put =
-    subst (λ (o : Outcome). Puts out i (line_of e o) line_room after next) is (rw shows at put)
+-- the text of a call's line
+pub wrote_call : {old new : Page} {shown : Line} (e : ℕ) (o : Outcome) → shown ≡ call_line e o →
+    Wrote old (text_of shown) line_room new → Wrote old (line_of e o) line_room new
+unfolding line_of
+wrote_call {old} {new} e o is wrote = subst (λ (l : Line). Wrote old (text_of l) line_room new) is wrote
 
 module _ (L : Layout) (last : ℕ) (log : List ℕ) where
   -- a form that is refused has one line

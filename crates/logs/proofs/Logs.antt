@@ -108,6 +108,11 @@ module _ (form events out : List ℕ) where
   unfolding log_written write_number
   written_unfit n = rw ((judged_decides (write_judged form events)).1 n)
 
+-- what the check of the reader, and of the writer, needs
+pub ruleset tells = (told_laid, told_broken)
+
+pub ruleset writes = (written_fit, written_short, written_unfit)
+
 -- what the writer answers in each case
 pub data Answer (form events out : List ℕ) : WriteTold → Type 0 where
   wrote : Fit form events → log_size form events ≤ length out →

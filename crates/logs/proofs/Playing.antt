@@ -1,61 +1,52 @@
--- Where a turn of the player begins: the lines laid so far, with the lines that the events left have on the image and output of now,
+-- Where a turn of the player begins: the lines put so far, with the lines that the events left have on the image and output of now,
 -- are the lines of all events.
 -- Assumes nothing.
-use mathlib.Core.Path.{◌≡◌, refl, ◌∙◌}
+use mathlib.Core.Path.{◌≡◌, refl}
 use mathlib.Core.List.{List, ◌++◌, append_assoc, append-nil}
-use Prim.Native.Nat.{ℕ, ◌+◌, ◌*◌, ◌-◌, ◌≤◌, ◌<◌}
+use Prim.Native.Nat.{ℕ, ◌+◌, ◌*◌, ◌-◌, ◌<◌}
 use native.Mathlib.Omega.{arith}
-use lib.ListN.{length}
 use Rattle.rules.specs.Describe.{last_tick}
 use Rattle.node.specs.Calls.{Outcome}
 use Rattle.node.specs.Layout.{layout}
 use Rattle.logs.specs.Listing.{line_room, line_of, event_call, event_lines}
 use Rattle.logs.specs.Log.{event_size}
-use Rattle.logs.specs.Played.{CallShown}
-use Rattle.text.specs.Puts.{Puts}
-use Rattle.logs.specs.declared.player.Call.{Call}
-use Rattle.logs.proofs.Lines.{lines_step, lines_end}
-use Rattle.text.proofs.Puts.{puts_as, puts_then}
+use Rattle.logs.specs.Played.{text_of, CallShown}
+use Rattle.text.specs.Page.{Fits, Wrote}
+use Rattle.text.specs.declared.page.Page.{Page}
+use Rattle.logs.specs.declared.line.Line.{Line}
+use Rattle.logs.proofs.Lines.{wrote_call, lines_step, lines_end}
+use Rattle.text.proofs.Pages.{wrote_as, wrote_then}
 
 -- the lines of events by the node's own description
 abbrev pub lines : List ℕ → ℕ → ℕ → ℕ → List ℕ → List ℕ → List ℕ
 lines = event_lines layout last_tick
 
--- where a turn begins, against the start: the n events from place `start` on are played behind the line that ends at `first`
+-- where a turn begins, against the start: of n events, which stand in the log from `start` on, the first ones are played
 pub record Playing
-    (log : List ℕ) (start n : ℕ) (image₀ sent₀ out₀ : List ℕ) (first : ℕ)
-    (image sent out : List ℕ) (before : Call) (place : ℕ) : Type 0 where
+    (log : List ℕ) (start n : ℕ) (image₀ sent₀ : List ℕ) (page₀ : Page)
+    (image sent : List ℕ) (page : Page) (event : ℕ) : Type 0 where
   pub done : List ℕ
-  pub laid : Puts out₀ first done (line_room * before.event) out before.next
-  pub all : done ++ lines log (n - before.event) place (before.event + 1) image sent ≡ lines log n start 1 image₀ sent₀
-  pub turn : before.event ≤ n
-  pub here : place ≡ start + event_size * before.event
-  pub image_room : length image ≡ length image₀
-  pub sent_room : length sent ≡ length sent₀
-  pub out_room : length out ≡ length out₀
+  pub wrote : Wrote page₀ done (line_room * event) page
+  pub all : done ++ lines log (n - event) (start + event_size * event) (event + 1) image sent ≡ lines log n start 1 image₀ sent₀
 
-module _ {log : List ℕ} {start n : ℕ} {image₀ sent₀ out₀ : List ℕ} {first : ℕ} {image sent out : List ℕ} {before : Call} {place : ℕ}
-    (h : Playing log start n image₀ sent₀ out₀ first image sent out before place) where
-  -- a turn: the event's line behind those laid
-  pub plays : {call : Call} {image₁ sent₁ after : List ℕ} → first + line_room * n ≤ length out₀ → before.event < n →
-      CallShown (before.event + 1) (event_call layout last_tick log place image sent) out before.next call image₁ sent₁ after →
-      length image₁ ≡ length image → length sent₁ ≡ length sent → length after ≡ length out →
-      Playing log start n image₀ sent₀ out₀ first image₁ sent₁ after call (place + event_size)
-  plays {call} {image₁} {sent₁} {after} room more p image_kept sent_kept out_kept =
-      let i : ℕ = before.event in
+module _ {log : List ℕ} {start n : ℕ} {image₀ sent₀ : List ℕ} {page₀ : Page} {image sent : List ℕ} {page : Page} {event : ℕ}
+    (h : Playing log start n image₀ sent₀ page₀ image sent page event) where
+  -- a turn: the event's line behind those put
+  pub plays : {shown : Line} {image₁ sent₁ : List ℕ} {after : Page} → Fits page₀ (line_room * n) → event < n →
+      CallShown (event + 1) (event_call layout last_tick log (start + event_size * event) image sent) shown image₁ sent₁ →
+      Wrote page (text_of shown) line_room after →
+      Playing log start n image₀ sent₀ page₀ image₁ sent₁ after (event + 1)
+  plays {shown} {image₁} {sent₁} {after} fits more p wrote =
+      let place : ℕ = start + event_size * event in
       let o : Outcome = event_call layout last_tick log place image sent in
+      let next : start + event_size * (event + 1) ≡ place + event_size = omega arith in
       record {
-        done = h.done ++ line_of (i + 1) o;
-        laid = puts_as refl (omega (arith, p.event)) (puts_then (omega arith) h.laid p.line);
-        all = rw (p.event, p.image_left_lem, p.out_left, append_assoc, lines_step layout last_tick log n i place image sent more) h.all;
-        turn = omega (arith, p.event);
-        here = omega (arith, p.event);
-        image_room = image_kept ∙ h.image_room;
-        sent_room = sent_kept ∙ h.sent_room;
-        out_room = out_kept ∙ h.out_room;
+        done = h.done ++ line_of (event + 1) o;
+        wrote = wrote_as (wrote_then h.wrote (omega arith) (wrote_call (event + 1) o p.line wrote)) refl (omega arith);
+        all = rw (p.image_left_lem, p.out_left, next, append_assoc, lines_step layout last_tick log n event place image sent more) h.all;
       }
 
-  -- past the last event all lines are laid
-  pub played : n ≤ before.event → Puts out₀ first (lines log n start 1 image₀ sent₀) (line_room * n) out before.next
-  played over =
-      puts_as (rw (lines_end layout last_tick log n before.event place image sent over, append-nil) at h.all) (omega arith) h.laid
+  -- past the last event all lines are put
+  pub plays_all : event ≡ n → Wrote page₀ (lines log n start 1 image₀ sent₀) (line_room * n) page
+  plays_all over =
+      wrote_as h.wrote (rw (lines_end layout last_tick log n event _ image sent (omega arith), append-nil) at h.all) (omega arith)

@@ -1,4 +1,5 @@
 pub mod Listing
 pub mod Log
 pub mod Played
+pub mod Refusal
 pub mod Table

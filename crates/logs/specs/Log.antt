@@ -1,15 +1,14 @@
 -- The log (01, "Layouts"): count of events (4), offset of the form (4, always 12), offset e of the events (4), the form from 12 to
 -- e, then 12 bytes for each event: port serial, frame. What its reader gives and what its writer leaves, for every input. Event bytes
 -- are not judged here.
-use Rattle.std.specs.Prelude.{ℕ, ◌+◌, ◌-◌, ◌*◌, ◌/◌, ◌%◌, List, Bool, cond, not, ◌||◌, length, take, drop, ltb, eqb}
+use Rattle.std.specs.Prelude.{ℕ, ◌+◌, ◌-◌, ◌*◌, ◌/◌, ◌%◌, List, Bool, cond, not, ◌||◌, Result, Ok, Err, length, take, drop, ltb, eqb}
 use Rattle.fields.specs.Field.{field, put_field}
 use Rattle.forms.specs.Form.{WriteTold, done_write, refused_write, write_told}
 use Rattle.forms.specs.Frame.{frame_size}
 use Rattle.text.specs.Lay.{lay}
-use Rattle.logs.specs.declared.file.LogRead.{LogRead}
-use Rattle.logs.specs.declared.file.LogRead.TheVariants.{Taken, Refused}
-use Rattle.logs.specs.declared.file.LogWritten.{LogWritten}
-use Rattle.logs.specs.declared.file.LogWritten.TheVariants.{Wrote, Broken, NoRoom}
+use Rattle.logs.specs.Refusal.{number_of}
+use Rattle.logs.specs.declared.file.Log.{Log}
+use Rattle.logs.specs.declared.refusal.Refusal.{Refusal}
 
 -- ---- places, sizes and limits
 
@@ -86,9 +85,9 @@ log_told b =
     cond (eqb (log_number b) 0) (record { number = 0; count = count_of b; events = events_at b }) (refused_log (log_number b))
 
 -- what an answer of the reader says
-abbrev pub told_by : LogRead → LogTold
-told_by (Taken log) = record { number = 0; count = log.count; events = log.events }
-told_by Refused = refused_log 13
+abbrev pub told_by : Result Log Refusal → LogTold
+told_by (Ok log) = record { number = 0; count = log.count; events = log.events }
+told_by (Err refusal) = refused_log (number_of refusal)
 
 -- ---- the writer
 
@@ -120,7 +119,6 @@ unfoldable pub log_written : List ℕ → List ℕ → List ℕ → WriteTold
 log_written form events out = write_told (write_number form events) (log_size form events) out (put_log out form events)
 
 -- what an answer of the log's writer says
-abbrev pub written_by : LogWritten → List ℕ → WriteTold
-written_by (Wrote size) out = done_write size out
-written_by Broken out = refused_write 13 out
-written_by NoRoom out = refused_write 7 out
+abbrev pub written_by : Result ℕ Refusal → List ℕ → WriteTold
+written_by (Ok size) out = done_write size out
+written_by (Err refusal) out = refused_write (number_of refusal) out

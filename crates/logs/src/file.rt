@@ -2,6 +2,7 @@
 ghost use Rattle.std.specs.Prelude.{◌≡◌};
 ghost use Rattle.logs.specs.Log.{told_by, log_told, written_by, log_written};
 
+use crate::refusal::Refusal;
 use fields::field::{put_word, word};
 use forms::frame::FRAME;
 use text::put::put_bytes;
@@ -44,73 +45,58 @@ pub struct Log {
     pub events: u32,
 }
 
-#[derive(Drop)]
-pub enum LogRead {
-    Taken(Log),
-    // number 13: layout of the log broken
-    Refused,
-}
-
-pub fn read_log(b: &[u8]) -> LogRead
+#[tactic(auto, using(crate::proofs::Logs::tells))]
+pub fn read_log(b: &[u8]) -> Result<Log, Refusal>
     ensures { told_by result ≡ log_told b.now }
 {
     if b.len() < FORM_PLACE {
-        return LogRead::Refused;
+        return Err(Refusal::Layout);
     }
     let count = word(b, 0);
     let events = word(b, 8);
     if word(b, 4) != FORM_OFFSET {
-        return LogRead::Refused;
+        return Err(Refusal::Layout);
     }
     if events < LEAST_OFFSET {
-        return LogRead::Refused;
+        return Err(Refusal::Layout);
     }
     if MOST_OFFSET < events {
-        return LogRead::Refused;
+        return Err(Refusal::Layout);
     }
     if MOST_EVENTS < count {
-        return LogRead::Refused;
+        return Err(Refusal::Layout);
     }
     if b.len() != events as usize + EVENT_SIZE * (count as usize) {
-        return LogRead::Refused;
+        return Err(Refusal::Layout);
     }
-    LogRead::Taken(Log { count, events })
+    Ok(Log { count, events })
 }
 
-// How a log's writer ended.
-#[derive(Drop)]
-pub enum LogWritten {
-    Wrote(usize),
-    // number 13: form or events not as a log may have them
-    Broken,
-    // number 7: output shorter than what would be written
-    NoRoom,
-}
-
-pub fn write_log(form: &[u8], events: &[u8], out: &mut [u8]) -> LogWritten
+#[tactic(auto, using(crate::proofs::Logs::writes), unfolding(crate::specs::Log::put_log))]
+pub fn write_log(form: &[u8], events: &[u8], out: &mut [u8]) -> Result<usize, Refusal>
     ensures { written_by result out.new ≡ log_written form.now events.now out.old }
 {
     if form.len() < LEAST_FORM {
-        return LogWritten::Broken;
+        return Err(Refusal::Layout);
     }
     if MOST_FORM < form.len() {
-        return LogWritten::Broken;
+        return Err(Refusal::Layout);
     }
     if events.len() % EVENT_SIZE != 0 {
-        return LogWritten::Broken;
+        return Err(Refusal::Layout);
     }
     if MOST_EVENT_BYTES < events.len() {
-        return LogWritten::Broken;
+        return Err(Refusal::Layout);
     }
     let start = FORM_PLACE + form.len();
     let size = start + events.len();
     if out.len() < size {
-        return LogWritten::NoRoom;
+        return Err(Refusal::Room);
     }
     put_word(out, 0, (events.len() / EVENT_SIZE) as u32);
     put_word(out, 4, FORM_OFFSET);
     put_word(out, 8, start as u32);
     put_bytes(out, FORM_PLACE, form);
     put_bytes(out, start, events);
-    LogWritten::Wrote(size)
+    Ok(size)
 }

@@ -2,4 +2,6 @@
 #![tactic(auto)]
 
 pub mod file;
+mod line;
 pub mod player;
+pub mod refusal;

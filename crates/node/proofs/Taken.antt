@@ -10,6 +10,7 @@ use native.Mathlib.Decide.{dec_le}
 use native.Mathlib.Omega.{arith}
 use lib.ListN.{length, get_or}
 use lib.Dec.{ltb, eqb, lit<}
+use Rattle.std.specs.Prelude.{Ok, Err}
 use borrow.Author.Tests.{ltb-false, eqb-false}
 use Rattle.fields.specs.Field.{field}
 use Rattle.fields.specs.Kind.{INIT, ECHO}
@@ -17,21 +18,20 @@ use Rattle.forms.specs.Form.{serials_place, lines_of, faults_of, own_of, form_nu
 use Rattle.forms.specs.Frame.{frame_size, frame_at, frame_number, FrameTold, frame_told}
 use Rattle.forms.specs.Frame.{told_by as frame_by}
 use Rattle.forms.specs.declared.frame.Frame.{Frame}
-use Rattle.forms.specs.declared.frame.FrameRead.{FrameRead}
-use Rattle.forms.specs.declared.frame.FrameRead.TheVariants.{Taken as TakenFrame, Refused as RefusedFrame}
-use Rattle.forms.specs.Number.{number_of}
+use Rattle.forms.specs.Number as wire
 use Rattle.forms.specs.Column.{count}
-use Rattle.forms.specs.declared.answer.Refusal.{Refusal}
+use Rattle.forms.specs.declared.answer.Refusal.{Refusal as Unread}
 use Rattle.forms.specs.declared.form.Form.{Form}
-use Rattle.forms.specs.declared.form.FormRead.{FormRead}
-use Rattle.forms.specs.declared.form.FormRead.TheVariants.{Taken as TakenForm}
 use Rattle.forms.proofs.Meaning.{not_apart, frame_told_lem, frame_says}
 use Rattle.forms.proofs.Frames.{not_bad_head, head_kind}
 use Rattle.forms.proofs.Rosters.{Limits}
-use Rattle.forms.proofs.Told.{refusal, told_taken, form_taken, form_roster, none_given, first_given}
+use Rattle.forms.proofs.Told.{refusal as unread, told_taken, form_taken, form_roster, none_given, first_given}
 use Rattle.rules.specs.Describe.{room}
 use Rattle.node.specs.Calls.{boot_number, number_before_a_frame, deliver_number}
 use Rattle.node.specs.Image.{roster_in, sound_image}
+use Rattle.node.specs.Number.{number_of}
+use Rattle.node.specs.declared.answer.Refusal.{Refusal}
+use Rattle.node.specs.declared.answer.Refusal.TheVariants.{Misread, Short, Room, Unsound, Port, Passive}
 use Rattle.node.specs.Layout.{image_size}
 use Rattle.node.specs.declared.layout.Layout.{Layout}
 use Rattle.node.proofs.Sound.{roster_lines}
@@ -47,25 +47,32 @@ pub past_image : (t : Bool) (next : ℕ) → cond t next 8 ≡ 0 → (t ≡ true
 past_image true next e = (refl, e)
 past_image false next e = absurd (omega arith)
 
+-- no refusal has number 0
+pub refusal : (why : Refusal) → eqb (number_of why) 0 ≡ false
+refusal (Misread why) = unread why
+refusal Short = refl
+refusal Room = refl
+refusal Unsound = refl
+refusal Port = refl
+refusal Passive = refl
+
 -- ---- a form
 
 -- what refuses the form refuses boot
 pub form_refuses :
-    (L : Layout) (form : List ℕ) (image_length out_length : ℕ) (why : Refusal)
-    → form_number form ≡ number_of why
-    → boot_number L form image_length out_length ≡ number_of why
+    (L : Layout) (form : List ℕ) (image_length out_length : ℕ) (why : Unread)
+    → form_number form ≡ wire.number_of why
+    → boot_number L form image_length out_length ≡ wire.number_of why
 unfolding boot_number
-form_refuses L form image_length out_length why e = rw e (first_given (number_of why) _ (refusal why))
+form_refuses L form image_length out_length why e = rw e (first_given (wire.number_of why) _ (unread why))
 
 module _ (b : List ℕ) where
   -- the fields that the reader told are the form's own
   pub told_form :
-      (read : FormRead) (form : Form)
-      → told_by read ≡ form_told b
-      → read ≡ TakenForm form
+      (form : Form)
+      → told_by (Ok form) ≡ form_told b
       → (form_number b ≡ 0) × (◌≡◌ {A = Form} form (record { lines = lines_of b; faults = faults_of b; own = own_of b }))
-  told_form read form told e =
-      let said : told_by (TakenForm form) ≡ form_told b = ap told_by (sym e) ∙ told in
+  told_form form said =
       let z = (told_taken b form.lines form.faults form.own said).0 in
       (z, ap (λ (t : FormTold). record { lines = t.lines; faults = t.faults; own = t.own }) (said ∙ form_taken b z))
 
@@ -110,22 +117,16 @@ frame_whole last b z =
 
 -- what is told of a frame that is refused: its number
 pub told_frame_refused :
-    (last : ℕ) (b : List ℕ) (read : FrameRead) (why : Refusal)
-    → frame_by read ≡ frame_told last b
-    → read ≡ RefusedFrame why
-    → frame_number last b ≡ number_of why
-told_frame_refused last b read why told e =
-    sym (frame_told_lem last b) ∙ ap (λ (t : FrameTold). t.number) (sym told) ∙ ap (λ (r : FrameRead). (frame_by r).number) e
+    (last : ℕ) (b : List ℕ) (why : Unread) → frame_by (Err why) ≡ frame_told last b → frame_number last b ≡ wire.number_of why
+told_frame_refused last b why told = sym (frame_told_lem last b) ∙ ap (λ (t : FrameTold). t.number) (sym told)
 
 -- and of one that is taken: its number is 0, and it is the frame of the bytes
 pub told_frame :
-    (last : ℕ) (b : List ℕ) (read : FrameRead) (frame : Frame)
-    → frame_by read ≡ frame_told last b
-    → read ≡ TakenFrame frame
+    (last : ℕ) (b : List ℕ) (frame : Frame)
+    → frame_by (Ok frame) ≡ frame_told last b
     → (frame_number last b ≡ 0) × (frame ≡ frame_at b 0)
 unfolding frame_told
-told_frame last b read frame told e =
-    let said : ◌≡◌ {A = FrameTold} (record { number = 0; frame = frame }) (frame_told last b) = ap frame_by (sym e) ∙ told in
+told_frame last b frame said =
     let z : frame_number last b ≡ 0 = sym (frame_told_lem last b) ∙ ap (λ (t : FrameTold). t.number) (sym said) in
     (z, ap (λ (t : FrameTold). t.frame) (rw z at said))
 

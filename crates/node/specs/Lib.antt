@@ -5,6 +5,7 @@ pub mod Heard
 pub mod Image
 pub mod Layout
 pub mod Matched
+pub mod Number
 pub mod Runs
 pub mod Sound
 pub mod Table

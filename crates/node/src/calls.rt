@@ -1,25 +1,27 @@
 // The calls on byte buffers: boot, deliver and read. Nothing has to be checked beforehand: every form, image, port, frame and output
-// is handled. A refusal gives its number and changes no byte. Crate `pebrassola` exports these calls to C, so the answers are C structs.
-ghost use Rattle.std.specs.Prelude.{◌≡◌};
-ghost use Rattle.node.specs.Answers.{outcome_by, reading_by};
+// is handled. A refusal gives its number and changes no byte.
+ghost use Rattle.std.specs.Prelude.{◌≡◌, IfOk};
+ghost use Rattle.node.specs.Answers.{outcome_by, reading_by, answered, clock_told};
 ghost use Rattle.node.specs.Calls.{booted, number_before_a_frame, deliver_outcome, reading};
 ghost use Rattle.rules.specs.Describe.{last_tick};
+ghost use Rattle.node.specs.Image.{node_of};
 ghost use Rattle.node.specs.Layout.{layout};
+ghost use Rattle.node.specs.Number.{verdict_of};
 
-use crate::image::{
-    MODE_PLACE, TICK_PLACE, is_sound, put_clock, put_fresh_rows, put_node, read_node,
-};
+use crate::answer::Refusal;
+use crate::image::{put_clock, put_fresh_rows, put_node, sound_node};
 use crate::layout::HEADER;
+use evidence::list::Rows;
 use evidence::rows::ROW;
-use fields::field::word;
 use fields::kind::ECHO;
-use forms::column::stands;
-use forms::form::{Form, FormRead, read_form};
-use forms::frame::{FrameRead, read_frame};
+use forms::column::Column;
+use forms::form::{SERIALS, read_form};
+use forms::frame::read_frame;
 use rules::node::Node;
 use rules::record::put_broadcast;
 
-// The number of a call, the records that stand in the output, and how many times a rule fired.
+// The number of a call, the records that stand in the output, and how many times a rule fired. A C struct, since crate `pebrassola` exports
+// boot and deliver to C: so a number stands in it and no Result.
 #[repr(C)]
 #[derive(Drop)]
 pub struct Answer {
@@ -28,7 +30,7 @@ pub struct Answer {
     pub fired: u32,
 }
 
-// The number of a call, and the clock.
+// The number of a call, and the clock. A C struct for `pebrassola`'s read, as the one above.
 #[repr(C)]
 #[derive(Drop)]
 pub struct Reading {
@@ -36,61 +38,90 @@ pub struct Reading {
     pub clock: u32,
 }
 
+// What an accepted boot or delivery reports: the records that stand in the output, and how many times a rule fired.
+#[derive(Clone, Copy)]
+struct Done {
+    records: u32,
+    fired: u32,
+}
+
+impl From<Result<Done, Refusal>> for Answer {
+    ghost from_gives = { λ told answer. answer ≡ answered told };
+
+    fn from(told: Result<Done, Refusal>) -> Answer {
+        match told {
+            Ok(done) => Answer {
+                number: 0,
+                records: done.records,
+                fired: done.fired,
+            },
+            Err(why) => Answer {
+                number: u32::from(why),
+                records: 0,
+                fired: 0,
+            },
+        }
+    }
+}
+
+impl From<Result<u32, Refusal>> for Reading {
+    ghost from_gives = { λ told r. r ≡ clock_told told };
+
+    fn from(told: Result<u32, Refusal>) -> Reading {
+        match told {
+            Ok(clock) => Reading { number: 0, clock },
+            Err(why) => Reading {
+                number: u32::from(why),
+                clock: 0,
+            },
+        }
+    }
+}
+
 // Makes a fresh node of a form.
 pub fn boot(form: &[u8], image: &mut [u8], out: &mut [u8]) -> Answer
     ensures { outcome_by result image.new out.new
         ≡ booted layout form.now image.old out.old }
 {
-    let told = read_form(form);
-    match told {
-        FormRead::Refused(why) => Answer {
-            number: why.number(),
-            records: 0,
-            fired: 0,
-        },
-        FormRead::Taken(roster) => {
-            let n = roster.lines as usize;
-            if image.len() < HEADER + n * ROW {
-                return Answer {
-                    number: 6,
-                    records: 0,
-                    fired: 0,
-                };
-            }
-            if out.len() < Node::ROOM {
-                return Answer {
-                    number: 7,
-                    records: 0,
-                    fired: 0,
-                };
-            }
-            put_node(image, Node::new(roster.lines, roster.faults, roster.own));
-            put_fresh_rows(image, form, n);
-            put_broadcast(out, 0, ECHO, 0);
-            Answer {
-                number: 0,
-                records: 1,
-                fired: 0,
-            }
-        }
-    }
+    Answer::from(try_boot(form, image, out))
 }
 
-// What a delivery is given before its frame is looked at: 7 of the room, 8 of the image, 9 of the port, or 0.
-fn number_before_frame(image: &[u8], port: u32, room: usize) -> u32
-    ensures { result ≡ number_before_a_frame layout last_tick image.now port room }
+fn try_boot(form: &[u8], image: &mut [u8], out: &mut [u8]) -> Result<Done, Refusal>
+    ensures { outcome_by (answered result) image.new out.new
+        ≡ booted layout form.now image.old out.old }
+{
+    let roster = read_form(form)?;
+    let n = roster.lines as usize;
+    if image.len() < HEADER + n * ROW {
+        return Err(Refusal::Short);
+    }
+    if out.len() < Node::ROOM {
+        return Err(Refusal::Room);
+    }
+    put_node(image, Node::new(roster.lines, roster.faults, roster.own));
+    put_fresh_rows(image, &Column::new(form, SERIALS, 4, n));
+    put_broadcast(out, 0, ECHO, 0);
+    Ok(Done {
+        records: 1,
+        fired: 0,
+    })
+}
+
+// The node that a delivery is for. Its frame is not looked at yet: first the room, then the image, then the port.
+fn receiver(image: &[u8], port: u32, room: usize) -> Result<Node, Refusal>
+    ensures number { verdict_of result
+        ≡ number_before_a_frame layout last_tick image.now port room }
+    ensures node { IfOk result (λ node. node ≡ node_of image.now) }
 {
     if room < Node::ROOM {
-        return 7;
+        return Err(Refusal::Room);
     }
-    if !is_sound(image) {
-        return 8;
+    let node = sound_node(image)?;
+    let rows = Rows::new(image, HEADER, node.lines as usize);
+    if !rows.serials().contains(port) {
+        return Err(Refusal::Port);
     }
-    let n = image[0] as usize;
-    if !stands(image, HEADER, ROW, n, port) {
-        return 9;
-    }
-    0
+    Ok(node)
 }
 
 // Takes one frame that the wiring delivered from a port. The frame is read once, and what was read is delivered.
@@ -98,52 +129,37 @@ pub fn deliver(image: &mut [u8], port: u32, frame: &[u8], out: &mut [u8]) -> Ans
     ensures { outcome_by result image.new out.new
         ≡ deliver_outcome layout last_tick image.old port frame.now out.old }
 {
-    let room = out.len();
-    let number = number_before_frame(image, port, room);
-    if number != 0 {
-        return Answer {
-            number,
-            records: 0,
-            fired: 0,
-        };
-    }
-    match read_frame(frame, Node::LAST_TICK) {
-        FrameRead::Refused(why) => Answer {
-            number: why.number(),
-            records: 0,
-            fired: 0,
-        },
-        FrameRead::Taken(taken) => {
-            let node = read_node(image);
-            let next = node.deliver(image, HEADER, port, taken, out);
-            put_clock(image, next.node);
-            Answer {
-                number: 0,
-                records: next.records as u32,
-                fired: next.fired as u32,
-            }
-        }
-    }
+    Answer::from(try_deliver(image, port, frame, out))
+}
+
+fn try_deliver(image: &mut [u8], port: u32, frame: &[u8], out: &mut [u8]) -> Result<Done, Refusal>
+    ensures { outcome_by (answered result) image.new out.new
+        ≡ deliver_outcome layout last_tick image.old port frame.now out.old }
+{
+    let node = receiver(image, port, out.len())?;
+    let taken = read_frame(frame, Node::LAST_TICK)?;
+    let next = node.deliver(image, HEADER, port, taken, out);
+    put_clock(image, next.node);
+    Ok(Done {
+        records: next.records as u32,
+        fired: next.fired as u32,
+    })
 }
 
 // The clock of an active node.
 pub fn read(image: &[u8]) -> Reading
     ensures { reading_by result ≡ reading layout last_tick image.now }
 {
-    if !is_sound(image) {
-        return Reading {
-            number: 8,
-            clock: 0,
-        };
+    Reading::from(try_read(image))
+}
+
+// The same for a caller in Rattle, such as the question of crate `packs`: the clock, or why there is none.
+pub fn try_read(image: &[u8]) -> Result<u32, Refusal>
+    ensures { reading_by (clock_told result) ≡ reading layout last_tick image.now }
+{
+    let node = sound_node(image)?;
+    if node.mode == 0 {
+        return Err(Refusal::Passive);
     }
-    if image[MODE_PLACE] == 0 {
-        return Reading {
-            number: 12,
-            clock: 0,
-        };
-    }
-    Reading {
-        number: 0,
-        clock: word(image, TICK_PLACE),
-    }
+    Ok(node.tick)
 }

@@ -1,20 +1,20 @@
 // The node image in lent bytes: its header read and written, its rows made, and whether it is sound.
-ghost use Rattle.std.specs.Prelude.{◌≡◌, ◌+◌, ◌*◌, ◌≤◌, ◌<◌, length};
-ghost use Rattle.fields.specs.Field.{words};
-ghost use Rattle.forms.specs.Form.{serials_place};
+ghost use Rattle.std.specs.Prelude.{◌≡◌, ◌&&◌, ◌+◌, ◌*◌, ◌≤◌, ◌<◌, true, false, leb, length, IfOk, IfErr};
 ghost use Rattle.forms.specs.Roster.{most_lines};
 ghost use Rattle.sets.specs.Sets.{mask_bytes};
 ghost use Rattle.evidence.specs.Rows.{put_rows};
 ghost use Rattle.rules.specs.Describe.{window, last_tick, fresh_rows};
+ghost use Rattle.node.specs.declared.answer.Refusal.TheVariants.{Unsound};
 ghost use Rattle.node.specs.Image.{node_of, state_with, fixed_header, headed};
 ghost use Rattle.node.specs.Layout.{layout, header_size, image_size};
 ghost use Rattle.node.specs.Image.{Writable, put_clock_bytes, put_fixed_bytes, put_node_bytes, sound_state, sound_image};
 
+use crate::answer::Refusal;
 use crate::layout::{HEADER, Layout, OFFSET};
-use evidence::rows::{ROW, are_proper, put_row};
+use evidence::list::Rows;
+use evidence::rows::{ROW, put_row};
 use fields::field::{half, put_half, put_word, word};
-use forms::answer::Verdict;
-use forms::form::SERIALS;
+use forms::column::Column;
 use forms::roster::{MOST_LINES, judge};
 use rules::node::Node;
 use sets::ticks::Ticks;
@@ -31,7 +31,7 @@ pub const TICK_PLACE: usize = 8;
 
 const SENT_PLACE: usize = 12;
 
-// The node of a header.
+// The node of a header. Its mode stays a number: `node_of` is of any bytes, and only a sound image has 0 or 1 there.
 pub fn read_node(b: &[u8]) -> Node
     requires { header_size ≤ length b.now }
     ensures { result ≡ node_of b.now }
@@ -51,32 +51,27 @@ fn has_fixed_header(b: &[u8], layout: Layout) -> bool
     requires { header_size ≤ length b.now }
     ensures { result ≡ fixed_header layout b.now }
 {
-    let size = layout.size(b[0] as u32);
-    if b[3] != layout.mark {
-        return false;
-    }
-    if half(b, 16) != OFFSET {
-        return false;
-    }
-    if half(b, 18) != size {
-        return false;
-    }
     // by their sum they are read as words; one by one the compiler would read each byte
     let zeros = word(b, 20) as u64 + word(b, 24) as u64 + word(b, 28) as u64;
-    zeros == 0
+    b[3] == layout.mark
+        && half(b, 16) == OFFSET
+        && half(b, 18) == layout.size(b[0] as u32)
+        && zeros == 0
 }
 
 // Whether a buffer begins with a header of this layout, and has the rows that it states.
 pub fn has_header(b: &[u8], layout: Layout) -> bool
     ensures { result ≡ headed layout b.now }
 {
-    if b.len() < HEADER {
-        return false;
-    }
-    if b.len() < half(b, 18) as usize {
-        return false;
-    }
-    has_fixed_header(b, layout)
+    HEADER <= b.len() && half(b, 18) as usize <= b.len() && has_fixed_header(b, layout)
+}
+
+// Whether mode is 0 or 1, and last echo ≤ k ≤ last tick.
+pub fn has_sound_clock(node: Node) -> bool
+    ensures { result
+        ≡ (leb node.mode 1 && (leb node.sent node.tick && leb node.tick last_tick)) }
+{
+    node.mode <= 1 && node.sent <= node.tick && node.tick <= Node::LAST_TICK
 }
 
 // Whether the node and its rows are as a sound image holds them.
@@ -84,33 +79,26 @@ fn is_sound_state(b: &[u8], node: Node) -> bool
     requires { image_size layout node.lines ≤ length b.now }
     ensures { result ≡ sound_state window last_tick (state_with layout node b.now) }
 {
-    let n = node.lines as usize;
-    if let Verdict::Broken(_) = judge(node.faults, node.own, b, HEADER, ROW, n) {
-        return false;
-    }
-    if 1 < node.mode {
-        return false;
-    }
-    if node.tick < node.sent {
-        return false;
-    }
-    if Node::LAST_TICK < node.tick {
-        return false;
-    }
-    if !are_proper(b, HEADER, n, Node::WINDOW, Node::LAST_TICK) {
-        return false;
-    }
-    node.rule(b, HEADER).is_at_rest()
+    let rows = Rows::new(b, HEADER, node.lines as usize);
+    judge(node.faults, node.own, &rows.serials()).is_ok()
+        && has_sound_clock(node)
+        && rows.are_proper(Node::WINDOW, Node::LAST_TICK)
+        && node.rule(&rows).is_at_rest()
 }
 
-// Whether a buffer holds a sound image: all that number 8 asks.
-pub(crate) fn is_sound(b: &[u8]) -> bool
-    ensures { result ≡ sound_image layout last_tick b.now }
+// The node of a sound image: all that number 8 asks.
+pub(crate) fn sound_node(b: &[u8]) -> Result<Node, Refusal>
+    ensures sound { IfOk result (λ node. (sound_image layout last_tick b.now ≡ true) × (node ≡ node_of b.now)) }
+    ensures refused { IfErr result (λ why. (sound_image layout last_tick b.now ≡ false) × (why ≡ Unsound)) }
 {
     if !has_header(b, Layout::in_service()) {
-        return false;
+        return Err(Refusal::Unsound);
     }
-    is_sound_state(b, read_node(b))
+    let node = read_node(b);
+    if !is_sound_state(b, node) {
+        return Err(Refusal::Unsound);
+    }
+    Ok(node)
 }
 
 // Writes mode, k and the last echo sent: what a delivery changes in the header.
@@ -148,16 +136,13 @@ pub fn put_node(b: &mut [u8], node: Node)
     put_clock(b, node);
 }
 
-// Writes a row with empty sets for each of the n serials of a form.
-pub(crate) fn put_fresh_rows(b: &mut [u8], form: &[u8], n: usize)
-    requires { (image_size layout n ≤ length b.old) × (serials_place + n * 4 ≤ length form.now) }
-    ensures { b.new
-        ≡ put_rows mask_bytes b.old header_size (fresh_rows (words n 4 form.now serials_place)) }
+// Writes a row with empty sets for each of a form's serials.
+pub(crate) fn put_fresh_rows(b: &mut [u8], serials: &Column)
+    requires { image_size layout (length serials.now) ≤ length b.old }
+    ensures { b.new ≡ put_rows mask_bytes b.old header_size (fresh_rows serials.now) }
 {
-    let mut k = 0;
-    while k < n {
-        let serial = word(form, SERIALS + k * 4);
-        put_row(b, HEADER + k * ROW, serial, Ticks::none(), Ticks::none());
-        k += 1;
+    for line in 0..serials.len() {
+        let serial = serials.number(line);
+        put_row(b, HEADER + line * ROW, serial, Ticks::none(), Ticks::none());
     }
 }

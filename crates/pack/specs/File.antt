@@ -1,8 +1,6 @@
--- What reading a file promises: what came stands in the buffer. Which bytes they are no contract can say.
-use Rattle.std.specs.Prelude.{ℕ, ◌≤◌}
-use Rattle.pack.specs.declared.file.Contents.{Contents}
-use Rattle.pack.specs.declared.file.Contents.TheVariants.{Bytes, Unreadable}
+-- What reading a file promises: what came stood in the buffer. Which bytes they are no contract can say.
+use Rattle.std.specs.Prelude.{ℕ, List, ◌≤◌, Option, IfSome, length}
+use Rattle.std.specs.Borrow.{Bor}
 
-abbrev pub Within : Contents → ℕ → Type 0
-Within (Bytes size) room = size ≤ room
-Within Unreadable room = Unit {0}
+abbrev pub Within : Option (Bor (List ℕ)) → ℕ → Type 0
+Within contents room = IfSome contents (λ bytes. length bytes.now ≤ room)

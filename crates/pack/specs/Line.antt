@@ -13,9 +13,17 @@ standing licence =
 unfoldable pub refusal : ℕ → List ℕ
 refusal number = ascii "refused " ++ decimal number
 
-unfoldable pub line : PackTold → List ℕ
-line told = cond (eqb told.number 0) (standing told.licence) (refusal told.number) ++ (newline ∷ [])
+-- what an answer says, without the newline
+unfoldable pub words : PackTold → List ℕ
+words told = cond (eqb told.number 0) (standing told.licence) (refusal told.number)
 
--- the most bytes of a line, 19: those of a refusal whose number has ten digits
+unfoldable pub line : PackTold → List ℕ
+line told = words told ++ (newline ∷ [])
+
+-- the most bytes of the words, 18: those of a refusal whose number has ten digits
+abbrev pub words_room : ℕ
+words_room = length (ascii "refused ") + most_digits
+
+-- and with the newline, 19
 abbrev pub line_room : ℕ
-line_room = length (ascii "refused ") + most_digits + 1
+line_room = words_room + 1

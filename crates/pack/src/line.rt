@@ -1,55 +1,49 @@
 // The line that the program prints about a question, made in bytes that it lends.
-ghost use Rattle.std.specs.Prelude.{[], ◌∷◌, ◌++◌};
+ghost use Rattle.std.specs.Prelude.{◌≡◌, ◌≤◌, length};
 ghost use Rattle.rules.specs.Describe.{last_tick};
 ghost use Rattle.node.specs.Layout.{layout};
-ghost use Rattle.text.specs.Characters.{newline};
+ghost use Rattle.text.specs.Page.{Fits, Wrote};
 ghost use Rattle.text.specs.Puts.{Puts};
-ghost use Rattle.packs.specs.Answers.{pack_by};
-ghost use Rattle.pack.specs.Line.{standing, refusal, line, line_room};
-ghost use Rattle.packs.specs.Question.{pack_told};
+ghost use Rattle.packs.specs.Number.{licence_of};
+ghost use Rattle.packs.specs.Question.{asked_by, pack_told};
+ghost use Rattle.pack.specs.Line.{standing, words, line, words_room, line_room};
 
-use packs::answer::Licence;
-use packs::calls;
-use packs::calls::PackAnswer;
-use text::decimal::{MOST_DIGITS, put_decimal};
-use text::put::put_text;
+use packs::answer::{Licence, Refusal};
+use packs::question::ask;
+use text::decimal::MOST_DIGITS;
+use text::page::Page;
 
-// Bytes of "refused ".
-const REFUSED: usize = 8;
+// What stands before the number of a refusal: 8 bytes.
+const REFUSED: &[u8; 8] = b"refused ";
 
 // The most bytes of a line, 19: that word, a number and the newline.
-pub const LINE_ROOM: usize = REFUSED + MOST_DIGITS + 1;
+pub const LINE_ROOM: usize = REFUSED.len() + MOST_DIGITS + 1;
 
-// Puts how a pack stands, by the number that the call gives.
-fn put_standing(out: &mut [u8; LINE_ROOM], licence: u32) -> usize
-    ensures { Puts out.old 0 (standing licence ++ (newline ∷ [])) line_room out.new result }
+// How a pack stands, in words.
+#[tactic(auto, unfolding(crate::specs::Line::standing))]
+fn standing(how: Licence) -> &'static [u8]
+    ensures words { result.now ≡ standing (licence_of how) }
+    ensures within { length result.now ≤ words_room }
 {
-    if licence == Licence::InForce.number() {
-        return put_text(out, 0, b"in force\n");
+    match how {
+        Licence::InForce => b"in force",
+        Licence::NotInForce => b"not in force",
+        Licence::NotLicensed => b"not licensed",
     }
-    if licence == Licence::NotInForce.number() {
-        return put_text(out, 0, b"not in force\n");
-    }
-    put_text(out, 0, b"not licensed\n")
 }
 
-// Puts the number of a refusal.
-fn put_refusal(out: &mut [u8; LINE_ROOM], number: u32) -> usize
-    ensures { Puts out.old 0 (refusal number ++ (newline ∷ [])) line_room out.new result }
+// Puts what an answer says: the number of a refusal, or how the pack stands.
+fn put_words(page: &mut Page<'_>, answer: Result<Licence, Refusal>)
+    requires { Fits page.old words_room }
+    ensures { Wrote page.old (words (asked_by answer)) words_room page.new }
 {
-    let a = put_text(out, 0, b"refused ");
-    let b = put_decimal(out, a, number);
-    put_text(out, b, b"\n")
-}
-
-// Puts the line of an answer.
-fn put_answer(out: &mut [u8; LINE_ROOM], answer: PackAnswer) -> usize
-    ensures { Puts out.old 0 (line (pack_by answer)) line_room out.new result }
-{
-    if answer.number != 0 {
-        return put_refusal(out, answer.number);
+    match answer {
+        Ok(how) => page.put(standing(how)),
+        Err(why) => {
+            page.put(REFUSED);
+            page.put_decimal(u32::from(why));
+        }
     }
-    put_standing(out, answer.licence)
 }
 
 // Asks whether a pack is in force, and puts the line of the answer.
@@ -57,6 +51,8 @@ pub fn show(sheet: &[u8], pack: u32, image: &[u8], out: &mut [u8; LINE_ROOM]) ->
     ensures { Puts out.old 0 (line (pack_told layout last_tick sheet.now pack image.now))
         line_room out.new result }
 {
-    let answer = calls::pack(sheet, pack, image);
-    put_answer(out, answer)
+    let mut page = Page::new(out);
+    put_words(&mut page, ask(sheet, pack, image));
+    page.push(b'\n');
+    page.len()
 }

@@ -5,17 +5,14 @@
 mod file;
 mod line;
 
-ghost use Rattle.std.specs.Prelude.{◌≡◌, ◌≤◌, IfOk, OnErr, length};
-ghost use Rattle.pack.specs.File.{Within};
-
-use file::{Contents, read_file};
+use file::read_file;
 use line::{LINE_ROOM, show};
 use node::image::MOST_IMAGE;
 use packs::sheet::LONGEST;
 use std::env::{Env, FillError};
 use std::io;
 use std::rt::Files;
-use text::decimal::{Decimal, read_decimal};
+use text::decimal::read_decimal;
 
 // The places of the arguments; the program's own name stands before them.
 const SHEET: usize = 1;
@@ -34,45 +31,33 @@ const SHEET_ROOM: usize = LONGEST + 1;
 
 // Whether an argument stands at this place.
 fn is_given(rt: &impl Env, place: usize) -> bool {
-    let mut text = [0u8; 1];
-    match rt.arg(place, &mut text) {
-        Err(FillError::NotPresent) => false,
-        _ => true,
-    }
+    !matches!(rt.arg(place, &mut [0u8; 1]), Err(FillError::NotPresent))
 }
 
-// Puts an argument at the front of a buffer, and gives how long it is: one that is not there or too long counts as empty.
-fn argument(rt: &impl Env, place: usize, text: &mut [u8]) -> usize
-    ensures { result ≤ length text.new }
-{
-    match rt.arg(place, text) {
-        Ok(size) => size,
-        Err(_) => 0,
-    }
+// An argument, in room that is lent for it: one that is not there or too long counts as empty.
+fn argument<'a>(rt: &impl Env, place: usize, room: &'a mut [u8]) -> &'a [u8] {
+    let size = rt.arg(place, room).unwrap_or(0);
+    &room[..size]
 }
 
 // The number argument.
-fn asked_number(rt: &impl Env) -> Decimal {
-    let mut text = [0u8; ARGUMENT_ROOM];
-    let size = argument(rt, NUMBER, &mut text);
-    read_decimal(&text[..size])
+fn asked_number(rt: &impl Env) -> Option<u32> {
+    let mut room = [0u8; ARGUMENT_ROOM];
+    read_decimal(argument(rt, NUMBER, &mut room))
 }
 
 // Reads the file that an argument names, and says so where it cannot.
-fn read_named<R: Env + Files + Print>(
+fn read_named<'a, R: Env + Files + Print>(
     rt: &R,
     place: usize,
-    bytes: &mut [u8],
-) -> io::Result<Contents>
-    ensures within { IfOk result (λ contents. Within contents (length bytes.new)) }
-    ensures err { OnErr result (length bytes.new ≡ length bytes.old) }
-{
-    let mut name = [0u8; ARGUMENT_ROOM];
-    let size = argument(rt, place, &mut name);
-    let contents = read_file(rt, &name[..size], bytes);
-    if let Contents::Unreadable = contents {
+    bytes: &'a mut [u8],
+) -> io::Result<Option<&'a [u8]>> {
+    let mut room = [0u8; ARGUMENT_ROOM];
+    let name = argument(rt, place, &mut room);
+    let contents = read_file(rt, name, bytes);
+    if contents.is_none() {
         rt.write_all(b"cannot read ")?;
-        rt.write_all(&name[..size])?;
+        rt.write_all(name)?;
         rt.write_all(b"\n")?;
     }
     Ok(contents)
@@ -81,16 +66,16 @@ fn read_named<R: Env + Files + Print>(
 // Reads both files, the sheet first, asks, and prints the answer. Of an image no more is read than the longest has: its size stands in
 // it, bytes behind that are not looked at, and a stated size above the longest is refused whatever follows.
 fn answer<R: Env + Files + Print>(rt: &R, pack: u32) -> io::Result<()> {
-    let mut sheet = [0u8; SHEET_ROOM];
-    let Contents::Bytes(sheet_size) = read_named(rt, SHEET, &mut sheet)? else {
+    let mut sheet_room = [0u8; SHEET_ROOM];
+    let Some(sheet) = read_named(rt, SHEET, &mut sheet_room)? else {
         return Ok(());
     };
-    let mut image = [0u8; MOST_IMAGE];
-    let Contents::Bytes(image_size) = read_named(rt, IMAGE, &mut image)? else {
+    let mut image_room = [0u8; MOST_IMAGE];
+    let Some(image) = read_named(rt, IMAGE, &mut image_room)? else {
         return Ok(());
     };
     let mut line = [0u8; LINE_ROOM];
-    let size = show(&sheet[..sheet_size], pack, &image[..image_size], &mut line);
+    let size = show(sheet, pack, image, &mut line);
     rt.write_all(&line[..size])
 }
 
@@ -103,7 +88,7 @@ fn main(rt: HostRuntime) -> io::Result<()> {
         return usage(&rt);
     }
     match asked_number(&rt) {
-        Decimal::NotANumber => usage(&rt),
-        Decimal::Number(pack) => answer(&rt, pack),
+        Some(pack) => answer(&rt, pack),
+        None => usage(&rt),
     }
 }

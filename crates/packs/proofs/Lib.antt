@@ -1,12 +1,13 @@
 -- The laws and theorems of `packs` that belong to no single function.
 pub mod Ascending
 pub mod Ended
-pub mod Entries
 mod Examples
 pub mod Meaning
 pub mod Order
 pub mod Puts
 pub mod RoundTrip
+pub mod Runs
 pub mod Single
 pub mod Theorems
 pub mod Told
+pub mod Written

@@ -28,7 +28,7 @@ use Rattle.packs.specs.Sheet.{entries_number, sheet_number, sheet_told, entry_on
 use Rattle.packs.specs.Writer.{ascending, put_entries, put_sheet, entries_given, unfit, write_number, sheet_written, bytes_written}
 use Rattle.packs.specs.declared.sheet.Entry.{Entry}
 use Rattle.packs.proofs.Ascending.{length_ascending, ascending_perm, ascending_order, ascending_ascends, ascending_self}
-use Rattle.packs.proofs.Entries.{length_entries_in, entries_same}
+use Rattle.packs.proofs.Runs.{length_entries_in, entries_same}
 use Rattle.packs.proofs.Meaning.{sheet_writer_says}
 use Rattle.packs.proofs.Order.{entries_number_order, licence_order, write_number_order}
 use Rattle.packs.proofs.Puts.{narrow_entries, narrow_order, length_put_entries, field_put_entries_before}

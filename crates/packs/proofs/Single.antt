@@ -6,6 +6,7 @@ use mathlib.Core.Bool.{cond}
 use mathlib.Core.List.{List}
 use Prim.Native.Nat.{ℕ}
 use lib.Dec.{eqb}
+use Rattle.std.specs.Prelude.{Result, Ok, Err}
 use Rattle.forms.specs.Form.{WriteTold}
 use Rattle.forms.proofs.Single.{one_answer, one_write, answer_to, refused_again}
 use Rattle.packs.specs.Answers.{pack_by, sheet_by}
@@ -17,17 +18,8 @@ use Rattle.packs.specs.declared.answer.Licence.{Licence}
 use Rattle.packs.specs.declared.answer.Licence.TheVariants.{NotLicensed, NotInForce, InForce}
 use Rattle.packs.specs.declared.answer.Refusal.{Refusal}
 use Rattle.packs.specs.declared.answer.Refusal.TheVariants.{Layout, Pack, Ticks, Room, Image, Passive}
-use Rattle.packs.specs.declared.answer.Verdict.{Verdict}
-use Rattle.packs.specs.declared.answer.Verdict.TheVariants.{Sound, Broken}
 use Rattle.packs.specs.declared.calls.PackAnswer.{PackAnswer}
 use Rattle.packs.specs.declared.calls.SheetAnswer.{SheetAnswer}
-use Rattle.packs.specs.declared.question.Asked.{Asked}
-use Rattle.packs.specs.declared.question.Asked.TheVariants.{Told}
-use Rattle.packs.specs.declared.question.Asked.TheVariants.{Refused as Unasked}
-use Rattle.packs.specs.declared.sheet.SheetRead.{SheetRead}
-use Rattle.packs.specs.declared.sheet.SheetRead.TheVariants.{Taken, Refused}
-use Rattle.packs.specs.declared.writer.Written.{Written}
-use Rattle.packs.specs.declared.writer.Written.TheVariants.{Wrote, NotWritten}
 use Rattle.packs.proofs.Told.{refusal}
 
 -- the case that a number stands for
@@ -50,30 +42,33 @@ back Image = refl
 back Passive = refl
 
 -- a refusal is had again from its number
-again : {A : Type 0} (taken : A) (refused : Refusal → A) (why : Refusal) → answer_to case_of taken refused (number_of why) ≡ refused why
-again taken refused why = refused_again case_of taken refused (number_of why) why (refusal why) (back why)
+again : {T : Type 0} (taken : T) (why : Refusal) → answer_to case_of (Ok taken) Err (number_of why) ≡ Err why
+again taken why = refused_again case_of (Ok taken) Err (number_of why) why (refusal why) (back why)
 
 -- ---- the judge of entries
 
-judged : (a : Verdict) → answer_to case_of Sound Broken (verdict_of a) ≡ a
-unfolding answer_to
-judged Sound = refl
-judged (Broken why) = again Sound Broken why
+judge_of : ℕ → Result (Unit {0}) Refusal
+judge_of n = answer_to case_of (Ok tt) Err n
 
-pub one_verdict : (a b : Verdict) → verdict_of a ≡ verdict_of b → a ≡ b
-one_verdict = one_answer verdict_of (answer_to case_of Sound Broken) judged
+judged : (a : Result (Unit {0}) Refusal) → judge_of (verdict_of a) ≡ a
+unfolding judge_of answer_to
+judged (Ok x) = refl
+judged (Err why) = again tt why
+
+pub one_verdict : (a b : Result (Unit {0}) Refusal) → verdict_of a ≡ verdict_of b → a ≡ b
+one_verdict = one_answer verdict_of judge_of judged
 
 -- ---- the reader
 
-read_of : SheetTold → SheetRead
-read_of t = answer_to case_of (Taken t.count) Refused t.number
+read_of : SheetTold → Result ℕ Refusal
+read_of t = answer_to case_of (Ok t.count) Err t.number
 
-read_is : (a : SheetRead) → read_of (told_by a) ≡ a
+read_is : (a : Result ℕ Refusal) → read_of (told_by a) ≡ a
 unfolding read_of answer_to
-read_is (Taken count) = refl
-read_is (Refused why) = again (Taken 0) Refused why
+read_is (Ok count) = refl
+read_is (Err why) = again 0 why
 
-pub one_sheet : (a b : SheetRead) → told_by a ≡ told_by b → a ≡ b
+pub one_sheet : (a b : Result ℕ Refusal) → told_by a ≡ told_by b → a ≡ b
 one_sheet = one_answer told_by read_of read_is
 
 -- ---- the question
@@ -90,15 +85,15 @@ licence_is InForce = refl
 pub one_licence : (a b : Licence) → licence_of a ≡ licence_of b → a ≡ b
 one_licence = one_answer licence_of licence_named licence_is
 
-asked_of : PackTold → Asked
-asked_of t = answer_to case_of (Told (licence_named t.licence)) Unasked t.number
+asked_of : PackTold → Result Licence Refusal
+asked_of t = answer_to case_of (Ok (licence_named t.licence)) Err t.number
 
-asked_is : (a : Asked) → asked_of (asked_by a) ≡ a
+asked_is : (a : Result Licence Refusal) → asked_of (asked_by a) ≡ a
 unfolding asked_of answer_to
-asked_is (Told how) = ap Told (licence_is how)
-asked_is (Unasked why) = again (Told (licence_named 0)) Unasked why
+asked_is (Ok how) = ap Ok (licence_is how)
+asked_is (Err why) = again (licence_named 0) why
 
-pub one_asked : (a b : Asked) → asked_by a ≡ asked_by b → a ≡ b
+pub one_asked : (a b : Result Licence Refusal) → asked_by a ≡ asked_by b → a ≡ b
 one_asked = one_answer asked_by asked_of asked_is
 
 pack_of : PackTold → PackAnswer
@@ -110,15 +105,15 @@ one_pack = one_answer pack_by pack_of (λ a. refl)
 
 -- ---- the writer
 
-written_of : WriteTold → Written
-written_of t = answer_to case_of (Wrote t.written) NotWritten t.number
+written_of : WriteTold → Result ℕ Refusal
+written_of t = answer_to case_of (Ok t.written) Err t.number
 
-written_is : (a : Written) (out : List ℕ) → (written_of (written_by a out) ≡ a) × ((written_by a out).out ≡ out)
+written_is : (a : Result ℕ Refusal) (out : List ℕ) → (written_of (written_by a out) ≡ a) × ((written_by a out).out ≡ out)
 unfolding written_of answer_to
-written_is (Wrote size) out = (refl, refl)
-written_is (NotWritten why) out = (again (Wrote 0) NotWritten why, refl)
+written_is (Ok size) out = (refl, refl)
+written_is (Err why) out = (again 0 why, refl)
 
-pub one_written : (a b : Written) (out other : List ℕ) → written_by a out ≡ written_by b other → (a ≡ b) × (out ≡ other)
+pub one_written : (a b : Result ℕ Refusal) (out other : List ℕ) → written_by a out ≡ written_by b other → (a ≡ b) × (out ≡ other)
 one_written = one_write written_by written_of written_is
 
 sheet_of : WriteTold → SheetAnswer

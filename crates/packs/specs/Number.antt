@@ -1,11 +1,9 @@
--- The numbers of this layer (02, A1), a number for each case of the answers' enums: refusals, and how a pack stands. Number 0 is success.
-use Rattle.std.specs.Prelude.{ℕ}
+-- The numbers of this layer (02, A1), a number for each refusal, and for each way a pack stands. Number 0 is success.
+use Rattle.std.specs.Prelude.{ℕ, Result, Ok, Err}
 use Rattle.packs.specs.declared.answer.Licence.{Licence}
 use Rattle.packs.specs.declared.answer.Licence.TheVariants.{NotLicensed, NotInForce, InForce}
 use Rattle.packs.specs.declared.answer.Refusal.{Refusal}
 use Rattle.packs.specs.declared.answer.Refusal.TheVariants.{Layout, Pack, Ticks, Room, Image, Passive}
-use Rattle.packs.specs.declared.answer.Verdict.{Verdict}
-use Rattle.packs.specs.declared.answer.Verdict.TheVariants.{Sound, Broken}
 
 abbrev pub number_of : Refusal → ℕ
 number_of Layout = 14
@@ -15,9 +13,10 @@ number_of Room = 7
 number_of Image = 8
 number_of Passive = 12
 
-abbrev pub verdict_of : Verdict → ℕ
-verdict_of Sound = 0
-verdict_of (Broken why) = number_of why
+-- the number of an answer, whatever comes with success
+abbrev pub verdict_of : {T : Type 0} → Result T Refusal → ℕ
+verdict_of (Ok _) = 0
+verdict_of (Err why) = number_of why
 
 -- how a pack stands: not on the sheet; on the sheet, but not at this tick; in force
 abbrev pub not_licensed : ℕ

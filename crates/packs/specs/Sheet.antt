@@ -2,13 +2,13 @@
 -- 4 bytes each. An entry licenses its pack from the tick first on, and until the tick before end. What the reader of a sheet gives, for
 -- every input. 15 and 16 look at the entries through counts alone, 15 at all of them before 16 at any, so their order decides nothing.
 use Rattle.std.specs.Prelude.{◌≡◌, ℕ, zero, suc, ◌+◌, ◌-◌, ◌*◌, ◌/◌, Bool, cond, not, ◌||◌, length, get_or, take, ltb, eqb}
+use Rattle.std.specs.Prelude.{Result, Ok, Err}
 use mathlib.Core.List.{List, [], ◌∷◌, Permᴰ}
 use Rattle.fields.specs.Field.{field}
 use Rattle.forms.specs.Column.{how_many, count, twins}
 use Rattle.packs.specs.Number.{number_of}
+use Rattle.packs.specs.declared.answer.Refusal.{Refusal}
 use Rattle.packs.specs.declared.sheet.Entry.{Entry}
-use Rattle.packs.specs.declared.sheet.SheetRead.{SheetRead}
-use Rattle.packs.specs.declared.sheet.SheetRead.TheVariants.{Taken, Refused}
 
 -- ---- places, sizes and limits
 
@@ -93,9 +93,9 @@ unfoldable pub sheet_told : List ℕ → SheetTold
 sheet_told b = cond (eqb (sheet_number b) 0) (record { number = 0; count = count_of b }) (refused_sheet (sheet_number b))
 
 -- what an answer of the reader says
-abbrev pub told_by : SheetRead → SheetTold
-told_by (Taken count) = record { number = 0; count = count }
-told_by (Refused why) = refused_sheet (number_of why)
+abbrev pub told_by : Result ℕ Refusal → SheetTold
+told_by (Ok count) = record { number = 0; count = count }
+told_by (Err why) = refused_sheet (number_of why)
 
 -- the entry on a line of a sheet that is taken; all 0 of a sheet that is refused, and past the last line
 abbrev pub no_entry : Entry

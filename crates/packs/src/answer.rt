@@ -1,9 +1,9 @@
-// What the reader and the writer of a sheet, and the question, answer: a case for each refusal. specs/Number.antt gives each case its
-// number.
+// What the reader and the writer of a sheet refuse, what the question refuses, and how a pack stands. specs/Number.antt gives each case
+// its number.
 ghost use Rattle.std.specs.Prelude.{◌≡◌};
 ghost use Rattle.packs.specs.Number.{number_of, licence_of};
 
-#[derive(Drop)]
+#[derive(Clone, Copy, Debug, PartialEq, Eq)]
 pub enum Refusal {
     // sheet not laid out as it must be, or more than 200 entries
     Layout,
@@ -19,12 +19,12 @@ pub enum Refusal {
     Passive,
 }
 
-impl Refusal {
-    // The number of the paper's table.
-    pub fn number(self) -> u32
-        ensures { result ≡ number_of self }
-    {
-        match self {
+// The number of the paper's table.
+impl From<Refusal> for u32 {
+    ghost from_gives = { λ why n. n ≡ number_of why };
+
+    fn from(why: Refusal) -> u32 {
+        match why {
             Refusal::Layout => 14,
             Refusal::Pack => 15,
             Refusal::Ticks => 16,
@@ -35,15 +35,8 @@ impl Refusal {
     }
 }
 
-// Whether 15 or 16 refuses some entries.
-#[derive(Drop)]
-pub enum Verdict {
-    Sound,
-    Broken(Refusal),
-}
-
 // How a pack stands at a tick.
-#[derive(Drop)]
+#[derive(Clone, Copy, Debug, PartialEq, Eq)]
 pub enum Licence {
     // not on the sheet
     NotLicensed,
@@ -52,12 +45,12 @@ pub enum Licence {
     InForce,
 }
 
-impl Licence {
-    // The number that C is told.
-    pub fn number(self) -> u32
-        ensures { result ≡ licence_of self }
-    {
-        match self {
+// The number that C is told.
+impl From<Licence> for u32 {
+    ghost from_gives = { λ how n. n ≡ licence_of how };
+
+    fn from(how: Licence) -> u32 {
+        match how {
             Licence::NotLicensed => 0,
             Licence::NotInForce => 1,
             Licence::InForce => 2,

@@ -4,6 +4,7 @@
 
 pub mod answer;
 pub mod calls;
+mod entries;
 pub mod question;
 pub mod sheet;
 pub mod writer;

@@ -1,14 +1,13 @@
 // The reader of a pack sheet: its count of entries, and an entry by its place.
-ghost use Rattle.std.specs.Prelude.{◌≡◌, ◌+◌, ◌*◌, ◌≤◌, length};
-ghost use Rattle.forms.specs.Column.{how_many};
+ghost use Rattle.std.specs.Prelude.{◌≡◌, ◌+◌, ◌≤◌, length, IfOk};
 ghost use Rattle.packs.specs.Number.{verdict_of};
-ghost use Rattle.packs.specs.Sheet.{entry_size, entry_in_bytes, entries_in, backward, twice, entries_number};
-ghost use Rattle.packs.specs.Steps.{Lines};
-ghost use Rattle.packs.specs.Sheet.{told_by, sheet_told, entry_on};
+ghost use Rattle.packs.specs.Question.{entry_in_force};
+ghost use Rattle.packs.specs.Sheet.{entry_size, entry_in_bytes, backward, sheet_number, told_by, sheet_told, entry_on};
+ghost use Rattle.packs.specs.Sheet.{entries_of as Sheet·entries_of};
 
-use crate::answer::{Refusal, Verdict};
+use crate::answer::Refusal;
+use crate::entries::Entries;
 use fields::field::{half, word};
-use forms::column::{ascends, count_word, tally_words};
 
 // Where the entries begin: behind the count and this offset. No sheet is shorter.
 pub const ENTRIES: usize = 4;
@@ -30,90 +29,62 @@ pub const MOST_ENTRIES: usize = 200;
 pub const LONGEST: usize = ENTRIES + MOST_ENTRIES * ENTRY;
 
 // A pack number, the first tick of its licence, and the first tick no longer licensed.
-#[derive(Drop)]
+#[derive(Clone, Copy, Default)]
 pub struct Entry {
     pub pack: u32,
     pub first: u32,
     pub end: u32,
 }
 
-#[derive(Drop)]
-pub enum SheetRead {
-    // a sheet that is taken has so many entries
-    Taken(u32),
-    Refused(Refusal),
+impl Entry {
+    // Whether the licence ends before it begins. One that ends where it begins is allowed: it is never in force.
+    pub(crate) fn is_backward(self) -> bool
+        ensures { result ≡ backward self }
+    {
+        self.end < self.first
+    }
+
+    // Whether this is the entry of a pack, and in force at a tick.
+    pub(crate) fn is_in_force(self, pack: u32, tick: u32) -> bool
+        ensures { result ≡ entry_in_force pack tick self }
+    {
+        self.pack == pack && self.first <= tick && tick < self.end
+    }
 }
 
-// How many of the n entries from i on have first above end.
-fn count_backward(b: &[u8], i: usize, n: usize) -> usize
-    requires { Lines b.now i n }
-    ensures { result ≡ how_many backward (entries_in n b.now i) }
-{
-    let mut found: usize = 0;
-    let mut at = i;
-    let mut left = n;
-    while 0 < left {
-        if word(b, at + END) < word(b, at + FIRST) {
-            found += 1;
-        }
-        at += ENTRY;
-        left -= 1;
-    }
-    found
-}
-
-// Whether a pack number stands twice among the n entries from i on. Ascending entries, which our writer leaves, take one look each.
-fn has_twins(b: &[u8], i: usize, n: usize) -> bool
-    requires { Lines b.now i n }
-    ensures { result ≡ twice (entries_in n b.now i) }
-{
-    if ascends(b, i, ENTRY, n) {
-        return false;
-    }
-    0 < tally_words(b, i, ENTRY, n, 0).twins
-}
-
-// The first of 15 and 16 that applies to the n entries from i on, all of them looked at for 15 before any is for 16.
-pub(crate) fn judge(b: &[u8], i: usize, n: usize) -> Verdict
-    requires { Lines b.now i n }
-    ensures { verdict_of result ≡ entries_number (entries_in n b.now i) }
-{
-    if 0 < count_word(b, i, ENTRY, n, 0) {
-        return Verdict::Broken(Refusal::Pack);
-    }
-    if has_twins(b, i, n) {
-        return Verdict::Broken(Refusal::Pack);
-    }
-    if 0 < count_backward(b, i, n) {
-        return Verdict::Broken(Refusal::Ticks);
-    }
-    Verdict::Sound
-}
-
-pub fn read_sheet(b: &[u8]) -> SheetRead
-    ensures { told_by result ≡ sheet_told b.now }
+// The entries of a sheet that is taken.
+#[tactic(auto, unfolding(crate::specs::Sheet::sheet_number))]
+pub(crate) fn entries_of(b: &[u8]) -> Result<Entries<'_>, Refusal>
+    ensures { (verdict_of result ≡ sheet_number b.now) × IfOk result (λ es. es ≡ Sheet·entries_of b.now) }
 {
     if b.len() < ENTRIES {
-        return SheetRead::Refused(Refusal::Layout);
+        return Err(Refusal::Layout);
     }
     if half(b, 2) != OFFSET {
-        return SheetRead::Refused(Refusal::Layout);
+        return Err(Refusal::Layout);
     }
-    let count = half(b, 0);
-    let n = count as usize;
-    if MOST_ENTRIES < n {
-        return SheetRead::Refused(Refusal::Layout);
+    let count = half(b, 0) as usize;
+    if MOST_ENTRIES < count {
+        return Err(Refusal::Layout);
     }
-    if b.len() != ENTRIES + ENTRY * n {
-        return SheetRead::Refused(Refusal::Layout);
+    if b.len() != ENTRIES + ENTRY * count {
+        return Err(Refusal::Layout);
     }
-    match judge(b, ENTRIES, n) {
-        Verdict::Broken(why) => SheetRead::Refused(why),
-        Verdict::Sound => SheetRead::Taken(count),
-    }
+    let entries = Entries::new(b, ENTRIES, count);
+    entries.judge()?;
+    Ok(entries)
 }
 
-// The entry at place i of the bytes.
+// How many entries a sheet has that is taken.
+#[tactic(auto, using(crate::proofs::Runs::length_entries_in), unfolding(crate::specs::Sheet::sheet_told))]
+pub fn read_sheet(b: &[u8]) -> Result<u32, Refusal>
+    ensures { told_by result ≡ sheet_told b.now }
+{
+    let entries = entries_of(b)?;
+    Ok(entries.len() as u32)
+}
+
+// The entry at place i of the bytes: a joint, which the writer calls for the run that it is still sorting.
 pub(crate) fn entry_at(b: &[u8], i: usize) -> Entry
     requires { i + entry_size ≤ length b.now }
     ensures { result ≡ entry_in_bytes b.now i }
@@ -126,17 +97,14 @@ pub(crate) fn entry_at(b: &[u8], i: usize) -> Entry
 }
 
 // The entry on a line, counted from 0, of a sheet that is taken; else all 0.
+#[tactic(auto, unfolding(crate::specs::Sheet::entry_on))]
 pub fn read_entry(b: &[u8], line: usize) -> Entry
     ensures { result ≡ entry_on b.now line }
 {
-    if let SheetRead::Taken(count) = read_sheet(b) {
-        if line < count as usize {
-            return entry_at(b, ENTRIES + ENTRY * line);
+    if let Ok(entries) = entries_of(b) {
+        if line < entries.len() {
+            return entries.entry(line);
         }
     }
-    Entry {
-        pack: 0,
-        first: 0,
-        end: 0,
-    }
+    Entry::default()
 }

@@ -3,7 +3,7 @@
 #![tactic(auto)]
 
 use logs::file::LONGEST;
-use logs::player::{LISTING_ROOM, Played, play};
+use logs::player::{LISTING_ROOM, play};
 use std::io;
 use text::input::read_full;
 
@@ -11,11 +11,8 @@ fn main(rt: HostRuntime) -> io::Result<()> {
     let mut bytes = [0u8; LONGEST + 1];
     let size = read_full(&mut rt.reader(), &mut bytes);
     let mut listing = [0u8; LISTING_ROOM];
-    if let Played::Listed(length) = play(&bytes[..size], &mut listing) {
-        // a listing always fits the room that the player asks
-        if length <= LISTING_ROOM {
-            rt.write_all(&listing[..length])?;
-        }
+    if let Ok(length) = play(&bytes[..size], &mut listing) {
+        rt.write_all(&listing[..length])?;
     }
     Ok(())
 }

@@ -32,10 +32,6 @@ pub jump_some : (l : ℕ) (rule : Rule) → 0 < l → or_jump l rule ≡ Jump (l
 jump_some zero rule p = absurd (omega arith)
 jump_some (suc l) rule p = ap Jump (less l)
 
-pub wake_some : (x : ℕ) → 0 < x → or_wake x ≡ Wake (x - 1)
-wake_some zero p = absurd (omega arith)
-wake_some (suc x) p = ap Wake (less x)
-
 -- R1 and R2 have the same effect
 pub first_rule_lem :
     (w last : ℕ) (rows : List Row) (p : Node)

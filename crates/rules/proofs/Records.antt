@@ -40,14 +40,18 @@ pub get_d_put_records_after : (out : List ℕ) (i : ℕ) (rs : List Outgoing) (j
 unfolding put_records
 get_d_put_records_after out i [] j p = refl
 get_d_put_records_after out i (r ∷ rs) j p =
-    get_d_put_records_after (put_record_bytes out i r) (i + record_size) rs j (omega arith) ∙ get_d_put_record_other out i r j (λ k q e. omega arith)
+    get_d_put_records_after (put_record_bytes out i r) (i + record_size) rs j (omega arith)
+    ∙ get_d_put_record_other out i r j (λ k q e. omega arith)
 
 -- a byte before them
-pub get_d_put_records_before : (out : List ℕ) (i : ℕ) (rs : List Outgoing) (j : ℕ) → j < i → get_or (put_records out i rs) j 0 ≡ get_or out j 0
+pub get_d_put_records_before : (out : List ℕ) (i : ℕ) (rs : List Outgoing) (j : ℕ) →
+    j < i →
+    get_or (put_records out i rs) j 0 ≡ get_or out j 0
 unfolding put_records
 get_d_put_records_before out i [] j p = refl
 get_d_put_records_before out i (r ∷ rs) j p =
-    get_d_put_records_before (put_record_bytes out i r) (i + record_size) rs j (omega arith) ∙ get_d_put_record_other out i r j (λ k q e. omega arith)
+    get_d_put_records_before (put_record_bytes out i r) (i + record_size) rs j (omega arith)
+    ∙ get_d_put_record_other out i r j (λ k q e. omega arith)
 
 pub put_records_none : (out : List ℕ) (i : ℕ) → put_records out i [] ≡ out
 unfolding put_records

@@ -1,18 +1,19 @@
-// A node by value: its place on the roster and its clock. The evidence lies in lent bytes, n rows from place i of a buffer on, and is
-// looked at where it lies, so a node costs six words of stack however many rows there are. The methods but `new` are joints
-// between layers: the caller has checked that the rows lie inside the buffer and that there is room for all records.
-ghost use Rattle.std.specs.Prelude.{◌≡◌, true, false, ◌&&◌, ◌+◌, ◌*◌, ◌≤◌, max, eqb, length};
+// A node by value: its place on the roster and its clock. The evidence, n rows, lies in lent bytes and is looked at where it lies, so a
+// node costs six words of stack however many rows there are. The methods but `new` are joints between layers: the caller has checked that
+// the rows are those of the roster and that there is room for all records.
+ghost use Rattle.std.specs.Prelude.{◌≡◌, true, false, ◌&&◌, ◌+◌, ◌*◌, ◌≤◌, eqb, leb, length};
+ghost use Rattle.evidence.specs.Holders.{holders};
 ghost use Rattle.fields.specs.Kind.{ECHO};
 ghost use Rattle.rules.specs.Describe.{window, last_tick, most_firings, fresh_node};
 ghost use Rattle.rules.specs.Record.{record_size};
-ghost use Rattle.rules.specs.Rules.{can_r2, can_r3, jump_to, or_jump, unsent, first_rule, at_rest, woken, fired, said, settle};
+ghost use Rattle.rules.specs.Rules.{can_r3, jump_to, or_jump, unsent, first_rule, at_rest, woken, fired, said, settle};
 ghost use Rattle.rules.specs.Delivery.{asks, answer, delivered};
-ghost use Rattle.rules.specs.Steps.{rows_from, state_from, RowsIn, may_echo, jump_else_wake, CanFire};
-ghost use Rattle.rules.specs.Steps.{SentAs, CreditedIn, CanSettle, SettledAs, CanDeliver, DeliveredAs};
+ghost use Rattle.rules.specs.Steps.{state_from, RowsOf, may_echo_by, jump_else_wake, CanFire};
+ghost use Rattle.rules.specs.Steps.{SentAs, broadcasts, FitKind, CreditedIn, CanSettle, SettledAs, CanDeliver, DeliveredAs};
 ghost use Rattle.rules.specs.declared.node.Rule.TheVariants.{Rest};
 
 use crate::record::{RECORD, put_answer, put_broadcast};
-use evidence::early::decide;
+use evidence::list::Rows;
 use evidence::rows::credit_row;
 use fields::kind::{ECHO, INIT};
 use forms::frame::{BROADCAST, Frame};
@@ -20,7 +21,7 @@ use search::greatest::find_greatest;
 use search::tops::is_reached;
 
 // The rule that fires next: none, R1 or R2, R3, R4 to tick l, R5 at tick x.
-#[derive(Clone, Copy)]
+#[derive(Clone, Copy, PartialEq, Eq)]
 pub enum Rule {
     Rest,
     Echo,
@@ -34,7 +35,7 @@ impl Rule {
     pub fn is_at_rest(self) -> bool
         ensures { result ≡ at_rest self }
     {
-        if let Rule::Rest = self { true } else { false }
+        matches!(self, Rule::Rest)
     }
 }
 
@@ -44,7 +45,7 @@ pub struct Node {
     pub lines: u32,
     pub faults: u32,
     pub own: u32,
-    // 0 passive, 1 active
+    // 0 passive, 1 active; a number, since the contracts hold for any (specs/Rules, `wake_at`)
     pub mode: u32,
     // k
     pub tick: u32,
@@ -64,19 +65,14 @@ pub struct Next {
 fn asks_answer(frame: Frame) -> bool
     ensures { result ≡ asks frame }
 {
-    if frame.kind != ECHO {
-        return false;
-    }
-    if frame.tick != 0 {
-        return false;
-    }
-    frame.flag == BROADCAST
+    frame.kind == ECHO && frame.tick == 0 && frame.flag == BROADCAST
 }
 
-fn greater(a: u32, b: u32) -> u32
-    ensures { result ≡ max a b }
+// Whether at least m of the rows hold (kind, t).
+fn is_held(rows: &Rows, m: usize, kind: u32, t: u32) -> bool
+    ensures { result ≡ leb m (holders window kind t rows.now) }
 {
-    if a < b { b } else { a }
+    rows.decide(kind, Node::WINDOW, t, m).held
 }
 
 impl Node {
@@ -104,253 +100,219 @@ impl Node {
         }
     }
 
-    // R1 or R2: echo k is unsent, and (init, k) or (echo, k) is held by f + 1.
-    fn can_echo(self, b: &[u8], i: usize) -> bool
-        requires { RowsIn self b.now i }
-        ensures { result ≡ may_echo self (rows_from self b.now i) }
+    // Of so many, f + 1, one is correct.
+    fn enough(self) -> usize
+        ensures { result ≡ self.faults + 1 }
     {
-        let n = self.lines as usize;
-        let k = self.tick;
-        let f = self.faults as usize;
-        let enough = f + 1;
-        if self.sent < k {
-            if decide(b, i, n, INIT, Node::WINDOW, k, enough).held {
-                return true;
-            }
-            return decide(b, i, n, ECHO, Node::WINDOW, k, enough).held;
-        }
-        false
+        self.faults as usize + 1
+    }
+
+    // R1 by inits, R2 by echoes: echo k is unsent, and (kind, k) is held by f + 1.
+    fn can_echo(self, rows: &Rows, kind: u32) -> bool
+        ensures { result ≡ may_echo_by kind self rows.now }
+    {
+        self.sent < self.tick && is_held(rows, self.enough(), kind, self.tick)
     }
 
     // R3: (echo, k) is held by n - f, and k is below the last tick.
-    fn can_tick(self, b: &[u8], i: usize) -> bool
-        requires { RowsIn self b.now i }
-        ensures { result ≡ can_r3 window last_tick self (rows_from self b.now i) }
+    fn can_tick(self, rows: &Rows) -> bool
+        requires { RowsOf self rows.now }
+        ensures { result ≡ can_r3 window last_tick self rows.now }
     {
-        let n = self.lines as usize;
-        let k = self.tick;
-        let enough = n - self.faults as usize;
-        if k < Node::LAST_TICK {
-            return decide(b, i, n, ECHO, Node::WINDOW, k, enough).held;
-        }
-        false
+        let most = (self.lines - self.faults) as usize;
+        self.tick < Node::LAST_TICK && is_held(rows, most, ECHO, self.tick)
     }
 
     // R4 or R5, or none.
-    fn jump_or_wake(self, b: &[u8], i: usize) -> Rule
-        requires { RowsIn self b.now i }
-        ensures { result ≡ jump_else_wake self (rows_from self b.now i) }
+    fn jump_or_wake(self, rows: &Rows) -> Rule
+        ensures { result ≡ jump_else_wake self rows.now }
     {
-        let n = self.lines as usize;
-        let enough = self.faults as usize + 1;
+        let enough = self.enough();
         let low = self.tick as u64 + 2;
-        if is_reached(b, i, n, ECHO, enough, low) {
-            let jump = find_greatest(b, i, n, ECHO, Node::WINDOW, enough, low);
-            if 0 < jump {
-                return Rule::Jump((jump - 1) as u32);
+        if is_reached(rows, ECHO, enough, low) {
+            if let Some(l) = find_greatest(rows, ECHO, Node::WINDOW, enough, low) {
+                return Rule::Jump(l);
             }
         }
         if self.mode == 0 {
-            let wake = find_greatest(b, i, n, INIT, Node::WINDOW, enough, 0);
-            if 0 < wake {
-                return Rule::Wake((wake - 1) as u32);
+            if let Some(x) = find_greatest(rows, INIT, Node::WINDOW, enough, 0) {
+                return Rule::Wake(x);
             }
         }
         Rule::Rest
     }
 
     // The first rule that can fire.
-    pub fn rule(self, b: &[u8], i: usize) -> Rule
-        requires { RowsIn self b.now i }
-        ensures { result ≡ first_rule window last_tick (rows_from self b.now i) self }
+    pub fn rule(self, rows: &Rows) -> Rule
+        requires { RowsOf self rows.now }
+        ensures { result ≡ first_rule window last_tick rows.now self }
     {
-        if self.can_echo(b, i) {
+        if self.can_echo(rows, INIT) || self.can_echo(rows, ECHO) {
             return Rule::Echo;
         }
-        if self.can_tick(b, i) {
+        if self.can_tick(rows) {
             return Rule::Tick;
         }
-        self.jump_or_wake(b, i)
+        self.jump_or_wake(rows)
     }
 
     // Whether (init, j) is what echo k waits for: j is k, and echo k is unsent.
     fn awaits_init(self, j: u32) -> bool
         ensures { result ≡ (eqb j self.tick && unsent self) }
     {
-        if j == self.tick {
-            return self.sent < j;
-        }
-        false
-    }
-
-    // R2 alone: echo k is unsent, and (echo, k) is held by f + 1.
-    fn can_echo_by_echoes(self, b: &[u8], i: usize) -> bool
-        requires { RowsIn self b.now i }
-        ensures { result ≡ can_r2 window self (rows_from self b.now i) }
-    {
-        let n = self.lines as usize;
-        let k = self.tick;
-        let enough = self.faults as usize + 1;
-        if self.sent < k {
-            return decide(b, i, n, ECHO, Node::WINDOW, k, enough).held;
-        }
-        false
+        j == self.tick && self.sent < j
     }
 
     // R4 after an echo of tick j: no tick but j, j - 1 and j - 2 can be new, so no other is looked at.
-    fn jump_near(self, b: &[u8], i: usize, j: u32) -> Rule
-        requires { CreditedIn self b.now i true j }
-        ensures { result ≡ or_jump (jump_to window self (rows_from self b.now i)) Rest }
+    fn jump_near(self, rows: &Rows, j: u32) -> Rule
+        requires { CreditedIn self rows.now true j }
+        ensures { result ≡ or_jump (jump_to window self rows.now) Rest }
     {
-        let n = self.lines as usize;
-        let enough = self.faults as usize + 1;
+        let enough = self.enough();
         let next = self.tick as u64 + 1;
-        let mut l = j;
-        let mut left: u32 = 3;
-        while 0 < left {
+        for back in 0..3 {
+            let l = j - back;
             if l as u64 <= next {
                 return Rule::Rest;
             }
-            if decide(b, i, n, ECHO, Node::WINDOW, l, enough).held {
+            if is_held(rows, enough, ECHO, l) {
                 return Rule::Jump(l);
             }
-            l -= 1;
-            left -= 1;
         }
         Rule::Rest
     }
 
     // The first rule after an echo of tick j: the inits stand still, so R1 and R5 can't be new; and an echo adds no tick above its own.
-    fn rule_after_echo(self, b: &[u8], i: usize, j: u32) -> Rule
-        requires { CreditedIn self b.now i true j }
-        ensures { result ≡ first_rule window last_tick (rows_from self b.now i) self }
+    fn rule_after_echo(self, rows: &Rows, j: u32) -> Rule
+        requires { CreditedIn self rows.now true j }
+        ensures { result ≡ first_rule window last_tick rows.now self }
     {
         if j < self.tick {
             Rule::Rest
-        } else if self.can_echo_by_echoes(b, i) {
+        } else if self.can_echo(rows, ECHO) {
             Rule::Echo
-        } else if self.can_tick(b, i) {
+        } else if self.can_tick(rows) {
             Rule::Tick
         } else {
-            self.jump_near(b, i, j)
+            self.jump_near(rows, j)
         }
     }
 
     // The first rule after an init of tick j: the echoes stand still, so R2, R3 and R4 can't be new, and j is the one tick to ask for.
-    fn rule_after_init(self, b: &[u8], i: usize, j: u32) -> Rule
-        requires { CreditedIn self b.now i false j }
-        ensures { result ≡ first_rule window last_tick (rows_from self b.now i) self }
+    fn rule_after_init(self, rows: &Rows, j: u32) -> Rule
+        requires { CreditedIn self rows.now false j }
+        ensures { result ≡ first_rule window last_tick rows.now self }
     {
-        let n = self.lines as usize;
-        let enough = self.faults as usize + 1;
-        if self.awaits_init(j) {
-            if decide(b, i, n, INIT, Node::WINDOW, j, enough).held {
-                Rule::Echo
-            } else {
-                Rule::Rest
-            }
+        let rule = if self.awaits_init(j) {
+            Rule::Echo
         } else if self.mode == 0 {
-            if decide(b, i, n, INIT, Node::WINDOW, j, enough).held {
-                Rule::Wake(j)
-            } else {
-                Rule::Rest
-            }
+            Rule::Wake(j)
+        } else {
+            return Rule::Rest;
+        };
+        if is_held(rows, self.enough(), INIT, j) {
+            rule
         } else {
             Rule::Rest
         }
     }
 
     // The first rule after a frame, of a node that was at rest before it: a few questions tell it.
-    fn rule_after(self, b: &[u8], i: usize, frame: Frame) -> Rule
-        requires { CreditedIn self b.now i (eqb frame.kind ECHO) frame.tick }
-        ensures { result ≡ first_rule window last_tick (rows_from self b.now i) self }
+    fn rule_after(self, rows: &Rows, frame: Frame) -> Rule
+        requires { CreditedIn self rows.now (eqb frame.kind ECHO) frame.tick }
+        ensures { result ≡ first_rule window last_tick rows.now self }
     {
         if frame.kind == ECHO {
-            return self.rule_after_echo(b, i, frame.tick);
+            self.rule_after_echo(rows, frame.tick)
+        } else {
+            self.rule_after_init(rows, frame.tick)
         }
-        self.rule_after_init(b, i, frame.tick)
     }
 
     // The tick that R5 at x takes: the larger of x - 1 and k, where x = 0 keeps k.
     fn woken(self, x: u32) -> u32
         ensures { result ≡ woken self x }
     {
-        if x == 0 {
-            return self.tick;
-        }
-        greater(x - 1, self.tick)
+        x.saturating_sub(1).max(self.tick)
     }
 
     // The node after a rule has fired.
+    #[tactic(auto, unfolding(crate::specs::Rules::fired))]
     fn fire(self, rule: Rule) -> Node
         requires { CanFire last_tick self rule }
         ensures { result ≡ fired self rule }
     {
-        let mut next = self;
         match rule {
-            Rule::Rest => {}
-            Rule::Echo => {
-                next.sent = self.tick;
-            }
-            Rule::Tick => {
-                next.tick = self.tick + 1;
-            }
-            Rule::Jump(l) => {
-                next.tick = l - 1;
-                next.sent = l - 1;
-            }
+            Rule::Rest => self,
+            Rule::Echo => Node {
+                sent: self.tick,
+                ..self
+            },
+            Rule::Tick => Node {
+                tick: self.tick + 1,
+                ..self
+            },
+            Rule::Jump(l) => Node {
+                tick: l - 1,
+                sent: l - 1,
+                ..self
+            },
             Rule::Wake(x) => {
                 let k = self.woken(x);
-                next.mode = 1;
-                next.tick = k;
-                next.sent = greater(self.sent, k);
+                Node {
+                    mode: 1,
+                    tick: k,
+                    sent: self.sent.max(k),
+                    ..self
+                }
             }
         }
-        next
+    }
+
+    // What a rule sends to all, a kind and a tick, or nothing.
+    #[tactic(auto, unfolding(crate::specs::Rules::said))]
+    fn sends(self, rule: Rule) -> Option<(u32, u32)>
+        requires { CanFire last_tick self rule }
+        ensures sent { broadcasts result ≡ said self rule }
+        ensures known { FitKind result }
+    {
+        match rule {
+            Rule::Rest => None,
+            Rule::Echo => Some((ECHO, self.tick)),
+            Rule::Tick => Some((INIT, self.tick + 1)),
+            Rule::Jump(l) => Some((ECHO, l - 1)),
+            Rule::Wake(x) => {
+                let k = self.woken(x);
+                if self.sent < k { Some((ECHO, k)) } else { None }
+            }
+        }
     }
 
     // Puts what a rule sends behind the records that are there, and gives the new count.
+    #[tactic(auto, using(crate::proofs::Records::sent_none, crate::proofs::Records::sent_one))]
     fn say(self, rule: Rule, out: &mut [u8], records: usize) -> usize
         requires { (CanFire last_tick self rule) × (record_size * records + record_size ≤ length out.old) }
         ensures { SentAs 1 (said self rule) records out.old result out.new }
     {
-        match rule {
-            Rule::Rest => records,
-            Rule::Echo => {
-                put_broadcast(out, RECORD * records, ECHO, self.tick);
+        match self.sends(rule) {
+            Some((kind, tick)) => {
+                put_broadcast(out, RECORD * records, kind, tick);
                 records + 1
             }
-            Rule::Tick => {
-                put_broadcast(out, RECORD * records, INIT, self.tick + 1);
-                records + 1
-            }
-            Rule::Jump(l) => {
-                put_broadcast(out, RECORD * records, ECHO, l - 1);
-                records + 1
-            }
-            Rule::Wake(x) => {
-                let k = self.woken(x);
-                if self.sent < k {
-                    put_broadcast(out, RECORD * records, ECHO, k);
-                    return records + 1;
-                }
-                records
-            }
+            None => records,
         }
     }
 
     // Fires the first rule that can until none can, puts the records behind the `start` that are there, and counts the firings. The
     // caller knows the first rule already, so it is asked for only after a firing.
-    fn settle(self, b: &[u8], i: usize, out: &mut [u8], start: usize, first: Rule) -> Next
-        requires { CanSettle self b.now i out.old start first }
-        ensures { SettledAs (settle window last_tick (rows_from self b.now i) most_firings self)
-            start out.old result out.new }
+    fn settle(self, rows: &Rows, out: &mut [u8], start: usize, first: Rule) -> Next
+        requires { CanSettle self rows.now out.old start first }
+        ensures { SettledAs (settle window last_tick rows.now most_firings self) start out.old result out.new }
     {
         let mut node = self;
         let mut records = start;
-        let mut fired = 0;
         let mut rule = first;
-        while fired < Node::MOST_FIRINGS {
+        for fired in 0..Node::MOST_FIRINGS {
             if rule.is_at_rest() {
                 return Next {
                     node,
@@ -360,13 +322,12 @@ impl Node {
             }
             records = node.say(rule, out, records);
             node = node.fire(rule);
-            fired += 1;
-            rule = node.rule(b, i);
+            rule = node.rule(rows);
         }
         Next {
             node,
             records,
-            fired,
+            fired: Node::MOST_FIRINGS,
         }
     }
 
@@ -375,11 +336,9 @@ impl Node {
         requires { record_size ≤ length out.old }
         ensures { SentAs 1 (answer self port frame) 0 out.old result out.new }
     {
-        if asks_answer(frame) {
-            if port != self.own {
-                put_answer(out, 0, port, self.sent);
-                return 1;
-            }
+        if asks_answer(frame) && port != self.own {
+            put_answer(out, 0, port, self.sent);
+            return 1;
         }
         0
     }
@@ -392,8 +351,9 @@ impl Node {
     {
         let n = self.lines as usize;
         credit_row(b, i, n, Node::WINDOW, port, frame.kind, frame.tick);
+        let rows = Rows::new(b, i, n);
         let start = self.answer(port, frame, out);
-        let first = self.rule_after(b, i, frame);
-        self.settle(b, i, out, start, first)
+        let first = self.rule_after(&rows, frame);
+        self.settle(&rows, out, start, first)
     }
 }

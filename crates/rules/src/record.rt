@@ -1,4 +1,5 @@
-// Outgoing records: destination serial, 0 for all, then a frame. Joints: the caller has checked that there is room.
+// Outgoing records: destination serial, 0 for all, then a frame. Joints: the caller has checked that there is room. They take a place and
+// no slice, since what they promise is the whole output afterwards (`put_record_bytes`).
 ghost use Rattle.std.specs.Prelude.{◌≡◌, ◌+◌, ◌≤◌, ◌<◌, length};
 ghost use Rattle.forms.specs.Frame.{Narrow};
 ghost use Rattle.rules.specs.Record.{record_size, broadcast, answer_to, put_record_bytes};
@@ -11,6 +12,7 @@ use forms::frame::{ANSWER, BROADCAST, Frame, put_frame};
 pub const RECORD: usize = 12;
 
 // Kind and flag have been judged too.
+#[tactic(auto, unfolding(crate::specs::Record::put_record_bytes))]
 fn put_record(out: &mut [u8], i: usize, dest: u32, frame: Frame)
     requires { (i + record_size ≤ length out.old) × Narrow frame }
     ensures { out.new ≡ put_record_bytes out.old i (record { dest = dest; frame = frame }) }

@@ -3,7 +3,7 @@
 -- Assumes nothing.
 use mathlib.Core.Path.{◌≡◌, sym, ap, ◌∙◌}
 use mathlib.Core.List.{List}
-use Prim.Native.Nat.{ℕ, zero, suc, ◌+◌, ◌-◌, ◌^◌, ◌≤◌, ◌<◌, max}
+use Prim.Native.Nat.{ℕ, suc, ◌+◌, ◌-◌, ◌^◌, ◌≤◌, ◌<◌, max}
 use native.Mathlib.Decide.{dec_lt}
 use native.Mathlib.Omega.{arith}
 use lib.Dec.{leb}
@@ -78,27 +78,23 @@ module _ {w kind m low : ℕ} {rows : List Row} {x held : ℕ} (look : Looked w 
       let d = x - 1 - t in
       omega (arith, s, holds_at w (looked_at x held) t d (omega arith) (omega arith), ap (λ (b : ℕ). bit b d) e, bit_none d))
 
-  -- the greatest of them, where it is above low
+  -- the greatest of them, as the search for it tells it
   abbrev Best : ℕ → Type 0
-  Best best = best ≡ max low (best_of w kind (max 1 m) low rows (looked_at x held))
+  Best best = best ≡ best_of w kind (max 1 m) low rows (looked_at x held)
 
-  pub none_better : (best : ℕ) → Best best → best ≤ low → NoneFrom w kind m low rows (x - view w)
-  none_better best e p = none_further (λ t l r s.
-      omega (arith, e, p, best_most w kind (max 1 m) low rows t (looked_at x held) l r s))
+  pub none_better : Best 0 → NoneFrom w kind m low rows (x - view w)
+  none_better e = none_further (λ t l r s. omega (arith, e, best_most w kind (max 1 m) low rows t (looked_at x held) l r s))
 
   -- something is found
-  pub found : (best : ℕ) → Best best → low < best → (best ≡ greatest w kind m low rows) × (best ≤ x)
-  found zero e p = absurd (omega arith)
-  found (suc t) e p =
-      let best : best_of w kind (max 1 m) low rows (looked_at x held) ≡ suc t = omega arith in
-      let has = best_held w kind (max 1 m) low rows t (looked_at x held) best in
+  pub found : (t : ℕ) → Best (suc t) → suc t ≡ greatest w kind m low rows
+  found t e =
+      let has = best_held w kind (max 1 m) low rows t (looked_at x held) (sym e) in
       let near = near_held t has.2 in
-      let is = greatest_is w kind m low rows t has.0 (omega (arith, has.1)) (omega (arith, has.1)) (λ u q r s.
+      sym (greatest_is w kind m low rows t has.0 (omega (arith, has.1)) (omega (arith, has.1)) (λ u q r s.
       elim (dec_lt u x) [
         | no n ↦ look.above u (omega arith) (omega (arith, has.0)) (omega arith)
         | yes l ↦
             let there = member u l (omega (arith, near.1)) (omega arith) in
             let later = best_most w kind (max 1 m) low rows u (looked_at x held) (omega (arith, has.0)) (omega arith) there in
-            omega (arith, best, later)
-      ]) in
-      (sym is, near.0)
+            omega (arith, e, later)
+      ]))

@@ -3,17 +3,17 @@
 use mathlib.Core.Path.{◌≡◌, ap, ◌∙◌}
 use mathlib.Core.Bool.{Bool, true, false, cond}
 use mathlib.Core.List.{List, [], ◌∷◌}
-use Prim.Native.Nat.{ℕ, ◌+◌, ◌-◌, ◌≤◌, ◌<◌, max}
+use Prim.Native.Nat.{ℕ, ◌+◌, ◌≤◌, ◌<◌, max}
 use native.Mathlib.Decide.{dec_le, dec_lt}
 use native.Mathlib.Omega.{arith}
 use borrow.Author.Tests.{le-leb, lt-leb, lt-ltb, le-ltb}
 use lib.Dec.{ltb, leb}
-use Rattle.fields.specs.Field.{field}
+use lib.ListN.{length, get_or, drop}
 use Rattle.sets.specs.Ticks.{Held, holds}
 use Rattle.sets.proofs.Members.{Place, above, below, inside, place, holds_above, holds_below, holds_le}
 use Rattle.evidence.specs.Holders.{holders}
-use Rattle.evidence.specs.Rows.{Row, row_size, set_of, place_of_set, set_at, rows_at}
-use Rattle.evidence.proofs.Layouts.{rows_down, set_of_row}
+use Rattle.evidence.specs.Rows.{Row, no_row, set_of}
+use Rattle.evidence.proofs.Lists.{row_and_rest, none_left}
 use Rattle.search.specs.Tops.{many_tops, covers, next_top}
 
 -- ---- a top covers tick x - 1, or is below it, or its window is above it
@@ -36,52 +36,38 @@ module _ (w x top : ℕ) where
   covers_none e =
       elim (dec_lt (top + 1) x) [ yes p ↦ covers_below p | no p ↦ covers_above (omega arith) ]
 
--- ---- the first row, and those behind it
+-- ---- a walk over the rows: the one in hand, and those behind it
 
--- the word where the set of a kind begins is its top
-pub top_at :
-    (kind mb : ℕ) (b : List ℕ) (i place top : ℕ) → place ≡ place_of_set mb kind → top ≡ field 4 b (i + place) →
-    top ≡ (set_at mb b (i + place_of_set mb kind)).top
-unfolding set_at
-top_at kind mb b i place top e f = f ∙ ap (λ (p : ℕ). field 4 b (i + p)) e
-
-module _ (kind mb n : ℕ) (b : List ℕ) (i : ℕ) (some : 0 < n) where
+module _ (kind : ℕ) (rows : List Row) (k : ℕ) (some : k < length rows) where
   abbrev top : ℕ
-  top = (set_at mb b (i + place_of_set mb kind)).top
-
-  abbrev later : List Row
-  later = rows_at mb (n - 1) b (i + row_size mb)
+  top = (set_of kind (get_or rows k no_row)).top
 
   module _ (passes : ℕ → Bool) where
-    pub many_down : many_tops passes kind (rows_at mb n b i) ≡ cond (passes top) 1 0 + many_tops passes kind later
+    pub many_down : many_tops passes kind (drop k rows) ≡ cond (passes top) 1 0 + many_tops passes kind (drop (k + 1) rows)
     unfolding many_tops
-    many_down =
-        ap (many_tops passes kind) (rows_down mb n b i some)
-        ∙ ap (λ (s : Held). cond (passes s.top) 1 0 + many_tops passes kind later) (set_of_row mb kind b i)
+    many_down = ap (many_tops passes kind) (row_and_rest rows k some)
 
     -- its top passes, or it does not
-    pub many_passed : passes top ≡ true → many_tops passes kind (rows_at mb n b i) ≡ 1 + many_tops passes kind later
+    pub many_passed : passes top ≡ true → many_tops passes kind (drop k rows) ≡ 1 + many_tops passes kind (drop (k + 1) rows)
     many_passed e = many_down ∙ rw e
 
-    pub many_missed : passes top ≡ false → many_tops passes kind (rows_at mb n b i) ≡ many_tops passes kind later
+    pub many_missed : passes top ≡ false → many_tops passes kind (drop k rows) ≡ many_tops passes kind (drop (k + 1) rows)
     many_missed e = many_down ∙ rw e (omega arith)
 
   module _ (x : ℕ) where
-    next_down : next_top x kind (rows_at mb n b i) ≡ max (cond (ltb (top + 1) x) (top + 1) 0) (next_top x kind later)
+    next_down : next_top x kind (drop k rows) ≡ max (cond (ltb (top + 1) x) (top + 1) 0) (next_top x kind (drop (k + 1) rows))
     unfolding next_top
-    next_down =
-        ap (next_top x kind) (rows_down mb n b i some)
-        ∙ ap (λ (s : Held). max (cond (ltb (s.top + 1) x) (s.top + 1) 0) (next_top x kind later)) (set_of_row mb kind b i)
+    next_down = ap (next_top x kind) (row_and_rest rows k some)
 
-    next_same : x ≤ top + 1 → next_top x kind (rows_at mb n b i) ≡ next_top x kind later
+    next_same : x ≤ top + 1 → next_top x kind (drop k rows) ≡ next_top x kind (drop (k + 1) rows)
     next_same p = next_down ∙ rw (le-ltb (top + 1) x p) (omega arith)
 
     module _ (w : ℕ) where
       -- it adds so many that cover tick x - 1, and this as the next top
       abbrev Step : ℕ → ℕ → Type 0
       Step more next =
-          (many_tops (covers w x) kind (rows_at mb n b i) ≡ more + many_tops (covers w x) kind later)
-          × (next_top x kind (rows_at mb n b i) ≡ max next (next_top x kind later))
+          (many_tops (covers w x) kind (drop k rows) ≡ more + many_tops (covers w x) kind (drop (k + 1) rows))
+          × (next_top x kind (drop k rows) ≡ max next (next_top x kind (drop (k + 1) rows)))
 
       -- its top is below tick x - 1, or covers it, or its window is above it
       pub look_below : top + 1 < x → Step 0 (top + 1)
@@ -96,14 +82,14 @@ module _ (kind mb n : ℕ) (b : List ℕ) (i : ℕ) (some : 0 < n) where
 
 -- ---- no rows are left
 
-module _ (kind mb n : ℕ) (b : List ℕ) (i : ℕ) (none : n ≡ 0) where
-  pub many_end : (passes : ℕ → Bool) → many_tops passes kind (rows_at mb n b i) ≡ 0
-  unfolding many_tops rows_at
-  many_end passes = ap (λ (k : ℕ). many_tops passes kind (rows_at mb k b i)) none
+module _ (kind : ℕ) (rows : List Row) (k : ℕ) (none : length rows ≤ k) where
+  pub many_end : (passes : ℕ → Bool) → many_tops passes kind (drop k rows) ≡ 0
+  unfolding many_tops
+  many_end passes = ap (many_tops passes kind) (none_left rows k none)
 
-  pub next_end : (x : ℕ) → next_top x kind (rows_at mb n b i) ≡ 0
-  unfolding next_top rows_at
-  next_end x = ap (λ (k : ℕ). next_top x kind (rows_at mb k b i)) none
+  pub next_end : (x : ℕ) → next_top x kind (drop k rows) ≡ 0
+  unfolding next_top
+  next_end x = ap (next_top x kind) (none_left rows k none)
 
 -- ---- holders, by their tops
 

@@ -1,17 +1,34 @@
 -- What a look at the rows knows while some rows are left, and what one more row adds to it.
 -- Assumes nothing.
-use mathlib.Core.Path.{◌≡◌}
+use mathlib.Core.Path.{◌≡◌, ap}
 use mathlib.Core.Logic.{◌⊎◌, inl, inr, ⊎_elim}
 use mathlib.Core.List.{List}
 use Prim.Native.Nat.{ℕ, ◌+◌, ◌-◌, ◌≤◌, ◌<◌}
 use native.Mathlib.Omega.{arith}
+use lib.ListN.{length, get_or, drop}
 use Rattle.evidence.specs.Holders.{holders}
-use Rattle.evidence.specs.Rows.{Row}
+use Rattle.evidence.specs.Rows.{Row, no_row, set_of}
+use Rattle.evidence.proofs.Lists.{row_and_rest, none_left}
 use Rattle.sets.specs.Ticks.{Held, bit, holds}
 use Rattle.search.specs.Levels.{capacity, reached, Short}
 use Rattle.search.specs.Scan.{view, Counted, Scanned}
 use Rattle.search.specs.declared.levels.Levels.{Levels}
 use Rattle.search.proofs.Bits.{reached_lt}
+
+-- ---- a walk over the rows: the one in hand, and those behind it
+
+module _ (w kind t : ℕ) (rows : List Row) (k : ℕ) where
+  pub held_down :
+      k < length rows →
+      holders w kind t (drop k rows) ≡ holds w (set_of kind (get_or rows k no_row)) t + holders w kind t (drop (k + 1) rows)
+  unfolding holders
+  held_down p = ap (holders w kind t) (row_and_rest rows k p)
+
+  pub held_end : length rows ≤ k → holders w kind t (drop k rows) ≡ 0
+  unfolding holders
+  held_end p = ap (holders w kind t) (none_left rows k p)
+
+-- ---- what the counters tell on the way
 
 module _ (w kind m x : ℕ) (all : List Row) where
   -- each tick looked at has run over, or its counter has gone on by the rows counted; `rest` are those left

@@ -1,4 +1,3 @@
-pub mod Asked
 pub mod Levels
 pub mod Order
 pub mod Scan

@@ -3,6 +3,7 @@
 ghost use Rattle.std.specs.Prelude.{◌≤◌, ◌<◌};
 ghost use Rattle.search.specs.Levels.{capacity, Filled, Short, Raised};
 
+// (A field for each rank: in an array of six words each would be named by a number, in the code and in the contracts.)
 #[derive(Drop)]
 pub struct Levels {
     pub ones: u64,
@@ -15,14 +16,11 @@ pub struct Levels {
     pub over: u64,
 }
 
-// The word with every bit set.
-const FULL: u64 = 18_446_744_073_709_551_615;
-
 // A word of equal bits.
 fn filled(c: u64) -> u64
     ensures { Filled c result }
 {
-    if c % 2 == 1 { FULL } else { 0 }
+    if c % 2 == 1 { u64::MAX } else { 0 }
 }
 
 impl Levels {

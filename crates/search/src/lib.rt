@@ -6,5 +6,6 @@
 pub mod greatest;
 mod levels;
 mod order;
+mod question;
 mod scan;
 pub mod tops;

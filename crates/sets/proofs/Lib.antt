@@ -6,4 +6,3 @@ pub mod Masks
 pub mod Members
 pub mod Single
 pub mod Wider
-pub mod Words

@@ -5,14 +5,18 @@ use mathlib.Core.Path.{◌≡◌, refl, sym, ap, ap₂, ◌∙◌, subst}
 use mathlib.Core.Logic.{◌↔◌}
 use Prim.Native.Nat.{ℕ, zero, suc, ◌+◌, ◌-◌, ◌*◌, ◌/◌, ◌%◌, ◌^◌, ◌≤◌, ◌<◌}
 use native.Mathlib.Nat.{pow-suc, pow-succ', div-div-eq-div-mul, div-one, div-eq_of_lt, lt_of_lt_of_le, mul_assoc}
-use native.Mathlib.Nat.{add-suc, add-zero, lt_of_le_of_lt, mod-lt, mod-le, mod-eq_of_lt, one-mul}
+use native.Mathlib.Nat.{add-suc, add-zero, lt_of_le_of_lt, mod-lt, mod-le, mod-eq_of_lt, one-mul, lt-div-mul-add}
 use native.Mathlib.Decide.{dec_lt, ℕ_discrete}
 use native.Mathlib.Omega.{arith}
-use lib.Pow.{pow_pos, pow_mono, pow-lt, mod-mod-pow, shl_lt}
+use lib.Pow.{pow_pos, pow_mono, pow-lt, mod-mod-pow, shl_lt, high, low}
 use lib.Arith.{mod-mul}
-use lib.Bits.{bit_and, bit_xor, differ, xor_step, xor_self, xor_add_and}
-use lib.Dec.{eqb}
-use borrow.Author.Tests.{eq-eqb, ne_eqb}
+use lib.Bits.{bit_and, bit_or, bit_xor, differ, xor_step, xor_self, xor_add_and, or_add_and}
+use Rattle.std.proofs.lemmas.Nat.Bits.{and_pow}
+use lib.Dec.{eqb, ltb}
+use borrow.Author.Tests.{eq-eqb, ne_eqb, lt-ltb, le-ltb}
+use lib.ListN.{get_or}
+use mathlib.Core.List.{List}
+use Rattle.fields.specs.Field.{field, Bytes}
 use Rattle.sets.specs.Ticks.{bit, raised, marked}
 
 pub bit_zero : (m : ℕ) → bit m 0 ≡ m % 2
@@ -161,7 +165,43 @@ unfolding raised
 raised_low w m d k p q h =
     odd_lt (m * 2 ^ d % 2 ^ w) (k + d) (omega arith) (raised_even w m d p q) (lt_of_le_of_lt (mod-le (m * 2 ^ d) (2 ^ w)) (shl_lt k d h))
 
+-- ---- a number in two parts, h above the n bits of l
+
+module _ (n h : ℕ) {l : ℕ} (small : l < 2 ^ n) where
+  pub bit_in_low : (i : ℕ) → i < n → bit (h * 2 ^ n + l) i ≡ bit l i
+  bit_in_low i p = sym (cut_at n (h * 2 ^ n + l) i p) ∙ ap (λ (x : ℕ). bit x i) (low h n small)
+
+  pub bit_in_high : (i : ℕ) → n ≤ i → bit (h * 2 ^ n + l) i ≡ bit h (i - n)
+  bit_in_high i p =
+      let e : i ≡ i - n + n = omega arith in
+      ap (bit (h * 2 ^ n + l)) e ∙ sym (shift_down (h * 2 ^ n + l) n (i - n)) ∙ ap (λ (x : ℕ). bit x (i - n)) (high h n small)
+
+-- bit d of a field stands in the byte d / 8 from its end
+pub bit_in_byte : (w : ℕ) (b : List ℕ) (i d : ℕ) → Bytes b → d < 8 * w →
+    bit (field w b i) d ≡ bit (get_or b (i + (w - 1 - d / 8)) 0) (d % 8)
+unfolding field
+bit_in_byte zero b i d h p = absurd (omega arith)
+bit_in_byte (suc w) b i d h p =
+    elim (dec_lt d 8) [
+      | yes q ↦
+          bit_in_low 8 (field w b i) (h (i + w)) d q
+          ∙ ap₂ (λ (k e : ℕ). bit (get_or b (i + k) 0) e) (omega arith) (omega arith)
+      | no q ↦
+          bit_in_high 8 (field w b i) (h (i + w)) d (omega arith) ∙ bit_in_byte w b i (d - 8) h (omega arith)
+          ∙ ap₂ (λ (k e : ℕ). bit (get_or b (i + k) 0) e) (omega arith) (omega arith)
+    ]
+
 -- ---- what a word of n bits computes
+
+-- a bit set is the bit or'ed in
+pub or_marked : (m d : ℕ) → bit_or m (2 ^ d) ≡ marked m d
+unfolding marked bit
+or_marked m d = go (bit m d) (bit_le m d) (omega (arith, or_add_and m (2 ^ d), and_pow m d))
+  where
+    go : (x : ℕ) → x ≤ 1 → bit_or m (2 ^ d) + x * 2 ^ d ≡ m + 2 ^ d → bit_or m (2 ^ d) ≡ m + (1 - x) * 2 ^ d
+    go zero p e = omega arith
+    go (suc zero) p e = omega arith
+    go (suc (suc x)) p e = absurd (omega arith)
 
 pub lone : (n d : ℕ) → d < n → 1 * 2 ^ d % 2 ^ n ≡ 2 ^ d
 lone n d p = ap (λ (x : ℕ). x % 2 ^ n) (one-mul (2 ^ d)) ∙ mod-eq_of_lt (pow-lt p)
@@ -171,6 +211,16 @@ cut_wide n w x p = ap (λ (k : ℕ). x % 2 ^ k % 2 ^ w) whole ∙ mod-mod-pow x 
   where
     whole : n ≡ n - w + w
     whole = omega arith
+
+-- a number is below 2 ^ k where nothing of it is left without its low k bits
+pub below_as_shifted : (x k : ℕ) → eqb (x / 2 ^ k) 0 ≡ ltb x (2 ^ k)
+below_as_shifted x k =
+    elim (dec_lt x (2 ^ k)) [
+      | yes p ↦ eq-eqb (x / 2 ^ k) 0 (div-eq_of_lt p) ∙ sym (lt-ltb x (2 ^ k) p)
+      | no p ↦
+          ne_eqb (x / 2 ^ k) 0 (λ e. p (omega (arith, lt-div-mul-add {a = x} (pow_pos k), ap (λ (q : ℕ). q * 2 ^ k) e)))
+          ∙ sym (le-ltb x (2 ^ k) (omega arith))
+    ]
 
 -- x ^ (x - 1) is 1 where x is odd, and more where it is even
 pub odd_alone : (x : ℕ) → 0 < x → eqb (bit_xor x (x - 1)) 1 ≡ eqb (x % 2) 1

@@ -1,7 +1,6 @@
--- From the structs of the code to the set of the definitions, and the sizes of their numbers. A mask is one number in two words, the
--- high one first (02, A8). A third width changes `mask_bytes`, `mask_by` and crate sets' file mask.rt, which has the same sizes by the same
--- names; what counts bits, and not words, stays.
-use Rattle.std.specs.Prelude.{ℕ, ◌+◌, ◌*◌, ◌^◌}
+-- From the structs of the code to the set of the definitions, and the sizes of their numbers. A mask is one number of 128 bits (02, A8).
+-- A third width changes `mask_bytes` and crate sets' file mask.rt, which has the same sizes by the same names; what counts bits stays.
+use Rattle.std.specs.Prelude.{ℕ, ◌*◌, ◌^◌}
 use Rattle.sets.specs.Ticks.{Held}
 use Rattle.sets.specs.declared.mask.Mask.{Mask}
 use Rattle.sets.specs.declared.ticks.Ticks.{Ticks}
@@ -25,7 +24,7 @@ abbrev pub tick_count : ℕ
 tick_count = 2 ^ 32
 
 abbrev pub mask_by : Mask → ℕ
-mask_by m = m.high * 2 ^ word_bits + m.low
+mask_by m = m.bits
 
 abbrev pub held_by : Ticks → Held
 held_by s = record { top = s.top; mask = mask_by s.mask }

@@ -1,6 +1,6 @@
 // A set of ticks by value: top and mask, bit i of the mask for tick top - i. Each function asks that the window is at most as wide
 // as a mask has bits, and at least 1 where it adds: a joint between layers, since only the node knows the window.
-ghost use Rattle.std.specs.Prelude.{◌≡◌, ◌≤◌, ◌<◌};
+ghost use Rattle.std.specs.Prelude.{◌≡◌, ◌≤◌, ◌<◌, eqb};
 ghost use Rattle.sets.specs.Ticks.{empty, holds, insert, add, proper};
 ghost use Rattle.sets.specs.Sets.{mask_bits, held_by};
 
@@ -17,32 +17,26 @@ impl Ticks {
     // How many ticks a top can tell apart.
     pub const COUNT: u64 = 1 << 32;
 
-    // The empty set.
+    // The empty set. (By hand: the papers have a word for it, and none for a default.)
     pub fn none() -> Ticks
         ensures { held_by result ≡ empty }
     {
         Ticks {
             top: 0,
-            mask: Mask::of(0),
+            mask: Mask::from(0),
         }
     }
 
-    // 1 where tick t is held, else 0.
-    pub fn holds(self, w: u32, t: u32) -> u32
+    // Whether tick t is held.
+    pub fn holds(self, w: u32, t: u32) -> bool
         requires { w ≤ mask_bits }
-        ensures { (result ≡ holds w (held_by self) t) × (result ≤ 1) }
+        ensures { result ≡ eqb (holds w (held_by self) t) 1 }
     {
-        let top = self.top;
-        if top < t {
-            return 0;
+        if self.top < t {
+            return false;
         }
-        let d = top - t;
-        if d < w {
-            let mask = self.mask;
-            mask.bit(d)
-        } else {
-            0
-        }
+        let d = self.top - t;
+        d < w && self.mask.bit(d)
     }
 
     // The set with tick t.
@@ -63,7 +57,7 @@ impl Ticks {
             } else {
                 Ticks {
                     top: t,
-                    mask: Mask::of(1),
+                    mask: Mask::from(1),
                 }
             }
         } else {
@@ -74,7 +68,7 @@ impl Ticks {
                     mask: mask.marked(down),
                 }
             } else {
-                Ticks { top, mask }
+                self
             }
         }
     }
@@ -104,17 +98,15 @@ impl Ticks {
         requires { w ≤ mask_bits }
         ensures { result ≡ proper w (held_by self) }
     {
-        let top = self.top;
-        let mask = self.mask;
-        if mask.is_odd() {
-            if top < w {
-                return mask.is_below(top + 1);
+        if self.mask.is_odd() {
+            // two calls: where w is known to be as many bits as there are, the second costs nothing
+            if self.top < w {
+                self.mask.is_below(self.top + 1)
+            } else {
+                self.mask.is_below(w)
             }
-            return mask.is_below(w);
+        } else {
+            self.mask.is_empty() && self.top == 0
         }
-        if mask.is_empty() {
-            return top == 0;
-        }
-        false
     }
 }

@@ -2,12 +2,12 @@
 -- place laid over changes. It is the library's copy of all the bytes (`paste`). Callers cite these and never look into `lay`.
 -- Assumes nothing.
 use mathlib.Core.Path.{◌≡◌, sym, ap₂, ◌∙◌, subst}
-use Prim.Native.Nat.{ℕ, ◌+◌, ◌-◌, ◌≤◌, ◌<◌}
+use Prim.Native.Nat.{ℕ, ◌+◌, ◌-◌, ◌≤◌}
 use native.Mathlib.Nat.{add-sub_of_le}
 use native.Mathlib.Omega.{arith}
-use mathlib.Core.List.{List, [], ◌∷◌, ◌++◌, append_assoc}
-use lib.ListN.{length, set, take, drop, length-append}
-use lib.Seq.{take-length, drop-drop, sets-eq, paste, paste-zero, length-paste, take-paste, drop-paste}
+use mathlib.Core.List.{List, [], ◌++◌, append_assoc}
+use lib.ListN.{length, take, drop, length-append}
+use lib.Seq.{take-length, drop-drop, paste, paste-zero, length-paste, take-paste, drop-paste}
 use Rattle.text.specs.Lay.{lay}
 
 pub lay_paste : (out : List ℕ) (i : ℕ) (bytes : List ℕ) → lay out i bytes ≡ paste out i bytes (length bytes)
@@ -35,15 +35,11 @@ module _ (out : List ℕ) (i : ℕ) (bytes : List ℕ) where
   pub length_lay : i + length bytes ≤ length out → length (lay out i bytes) ≡ length out
   length_lay p = rw lay_paste (length-paste out i bytes (length bytes) p (omega arith))
 
--- ---- no byte, one byte, some bytes and then others
+-- ---- no byte, some bytes and then others
 
 pub lay_none : (out : List ℕ) (i : ℕ) → lay out i [] ≡ out
 unfolding lay
 lay_none out i = sym (paste-zero out i [])
-
-pub lay_one : (out : List ℕ) (i x : ℕ) → i < length out → lay out i (x ∷ []) ≡ set out i x
-unfolding lay
-lay_one out i x p = sym (sets-eq (x ∷ []) out i (omega arith))
 
 -- what a writer that goes on leaves: bytes laid behind bytes laid are all of them laid at once
 pub lay_append : (out : List ℕ) (i : ℕ) (xs ys : List ℕ) → i + length xs + length ys ≤ length out →

@@ -2,5 +2,6 @@
 mod Examples
 pub mod Decimals
 pub mod Lays
+pub mod Pages
 pub mod Puts
 pub mod Readings

@@ -1,26 +1,16 @@
--- Laws of text that is put: none, one byte, the length, more room or the same text, and what two writers put of which the second goes
--- on where the first stopped.
+-- Laws of text that is put: none, more room or the same text, and what two writers put of which the second goes on where the first stopped.
 -- Assumes nothing.
-use mathlib.Core.Path.{◌≡◌, sym, ap, ap₂, ◌∙◌, subst}
-use mathlib.Core.List.{List, [], ◌∷◌, ◌++◌}
-use Prim.Native.Nat.{ℕ, ◌+◌, ◌≤◌, ◌<◌}
+use mathlib.Core.Path.{◌≡◌, sym, ap₂, ◌∙◌, subst}
+use mathlib.Core.List.{List, [], ◌++◌}
+use Prim.Native.Nat.{ℕ, ◌+◌, ◌≤◌}
 use native.Mathlib.Omega.{arith}
-use lib.ListN.{length, set, length-append}
+use lib.ListN.{length, length-append}
 use Rattle.text.specs.Lay.{lay}
 use Rattle.text.specs.Puts.{Puts}
-use Rattle.text.proofs.Lays.{length_lay, lay_none, lay_append, lay_one}
+use Rattle.text.proofs.Lays.{lay_none, lay_append}
 
 pub puts_none : {out : List ℕ} {i : ℕ} → Puts out i [] 0 out i
 puts_none {out} {i} = record { behind = omega arith; within = omega arith; left = sym (lay_none out i) }
-
-pub puts_one : {out : List ℕ} {i x : ℕ} {after : List ℕ} {next : ℕ} →
-    i < length out → next ≡ i + 1 → after ≡ set out i x → Puts out i (x ∷ []) 1 after next
-puts_one {out} {i} {x} p e f = record { behind = e; within = omega arith; left = f ∙ sym (lay_one out i x p) }
-
--- text that fits leaves the length
-pub puts_length : {out : List ℕ} {i : ℕ} {text : List ℕ} {room : ℕ} {after : List ℕ} {next : ℕ} →
-    Puts out i text room after next → i + room ≤ length out → length after ≡ length out
-puts_length {out} {i} {text} put fits = ap length put.left ∙ length_lay out i text (omega arith)
 
 pub puts_as : {out : List ℕ} {i : ℕ} {xs ys : List ℕ} {r s : ℕ} {after : List ℕ} {next : ℕ} →
     xs ≡ ys → r ≤ s → Puts out i xs r after next → Puts out i ys s after next

@@ -1,6 +1,7 @@
 -- Laws of a number that is read: a character more, the end, a number that has grown too great; and what is written reads back.
 -- Assumes nothing.
 use mathlib.Core.Path.{◌≡◌, refl, ap₂, ◌∙◌}
+use mathlib.Core.Logic.{◌⊎◌, inl, inr}
 use mathlib.Core.Bool.{Bool, true, false, cond, ◌&&◌, and-false, and-eq-true_iff}
 use mathlib.Core.List.{List, [], ◌∷◌, ◌++◌}
 use Prim.Native.Nat.{ℕ, zero, suc, ◌+◌, ◌-◌, ◌*◌, ◌/◌, ◌%◌, ◌^◌, ◌≤◌, ◌<◌}
@@ -10,7 +11,7 @@ use lib.ListN.{length, length-append}
 use lib.Dec.{ltb}
 use borrow.Author.Tests.{ltb-true, le-leb, lt-leb, ne_eqb}
 use Rattle.text.specs.Decimal.{most_number, digit, decimal_in, decimal, is_digit_byte, all_digits, value_from, read_from, decimal_of}
-use Rattle.text.specs.declared.decimal.Decimal.TheVariants.{Number, NotANumber}
+use Rattle.std.specs.declared.option.Option.TheVariants.{Some, None}
 
 -- ---- a character more, and the end
 
@@ -22,15 +23,12 @@ module _ (n x : ℕ) (xs : List ℕ) where
   unfolding read_from all_digits value_from
   read_digit low high = rw (is_digit x low high)
 
-  pub read_low : x < digit 0 → read_from n (x ∷ xs) ≡ NotANumber
+  pub read_other : (x < digit 0) ⊎ (digit 9 < x) → read_from n (x ∷ xs) ≡ None
   unfolding read_from all_digits
-  read_low low = rw (lt-leb (digit 0) x low)
+  read_other (inl low) = rw (lt-leb (digit 0) x low)
+  read_other (inr high) = rw (lt-leb x (digit 9) high, and-false)
 
-  pub read_high : digit 9 < x → read_from n (x ∷ xs) ≡ NotANumber
-  unfolding read_from all_digits
-  read_high high = rw (lt-leb x (digit 9) high, and-false)
-
-pub read_end : (n : ℕ) → n ≤ most_number → read_from n [] ≡ Number n
+pub read_end : (n : ℕ) → n ≤ most_number → read_from n [] ≡ Some n
 unfolding read_from all_digits value_from
 read_end n few = rw (le-leb n most_number few)
 
@@ -40,7 +38,7 @@ unfolding value_from
 value_grows n [] = omega arith
 value_grows n (x ∷ xs) = omega (arith, value_grows (n * 10 + (x - digit 0)) xs)
 
-pub read_great : (n : ℕ) (xs : List ℕ) → most_number < n → read_from n xs ≡ NotANumber
+pub read_great : (n : ℕ) (xs : List ℕ) → most_number < n → read_from n xs ≡ None
 unfolding read_from
 read_great n xs great = rw (lt-leb (value_from n xs) most_number (omega (arith, value_grows n xs)), and-false)
 
@@ -96,7 +94,7 @@ written_in (suc c) n small =
     written_more c n (written_in c (n / 10) (omega arith))
 
 -- a number of 32 bits, written, reads back
-pub decimal_reads : (n : ℕ) → n ≤ most_number → decimal_of (decimal n) ≡ Number n
+pub decimal_reads : (n : ℕ) → n ≤ most_number → decimal_of (decimal n) ≡ Some n
 unfolding decimal decimal_of read_from
 decimal_reads n few =
     let r = written_in 19 n (omega arith) in

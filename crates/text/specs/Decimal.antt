@@ -1,7 +1,6 @@
 -- A number in decimal digits, as ASCII codes: how it is written, and how it is read.
-use Rattle.std.specs.Prelude.{ℕ, zero, suc, ◌+◌, ◌-◌, ◌*◌, ◌/◌, ◌%◌, List, [], ◌∷◌, ◌++◌, Bool, true, cond, ◌&&◌, length, leb, ltb, eqb}
-use Rattle.text.specs.declared.decimal.Decimal.{Decimal}
-use Rattle.text.specs.declared.decimal.Decimal.TheVariants.{Number, NotANumber}
+use Rattle.std.specs.Prelude.{ℕ, zero, suc, ◌+◌, ◌-◌, ◌*◌, ◌/◌, ◌%◌, List, [], ◌∷◌, ◌++◌, Bool, true, cond, ◌&&◌}
+use Rattle.std.specs.Prelude.{Option, Some, None, length, leb, ltb, eqb}
 
 -- the greatest number of 32 bits
 abbrev pub most_number : ℕ
@@ -41,8 +40,8 @@ value_from n [] = n
 value_from n (x ∷ xs) = value_from (n * 10 + (x - digit 0)) xs
 
 -- what is read behind the digits of n
-unfoldable pub read_from : ℕ → List ℕ → Decimal
-read_from n text = cond (all_digits text && leb (value_from n text) most_number) (Number (value_from n text)) NotANumber
+unfoldable pub read_from : ℕ → List ℕ → Option ℕ
+read_from n text = cond (all_digits text && leb (value_from n text) most_number) (Some (value_from n text)) None
 
-unfoldable pub decimal_of : List ℕ → Decimal
-decimal_of text = cond (eqb (length text) 0) NotANumber (read_from 0 text)
+unfoldable pub decimal_of : List ℕ → Option ℕ
+decimal_of text = cond (eqb (length text) 0) None (read_from 0 text)

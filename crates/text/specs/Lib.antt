@@ -1,5 +1,5 @@
--- The definitions of what programs print and read.
 pub mod Characters
 pub mod Decimal
 pub mod Lay
+pub mod Page
 pub mod Puts

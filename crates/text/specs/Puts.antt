@@ -1,5 +1,5 @@
 -- Text that was laid over an output from place i on: the place behind it, no further than a given room, and every byte of the output.
--- The contract of every function that puts text.
+-- What is put on a page is put so (Page), and so a caller's output is filled.
 use Rattle.std.specs.Prelude.{◌≡◌, List, ℕ, ◌+◌, ◌≤◌, length}
 use Rattle.text.specs.Lay.{lay}
 

@@ -1,6 +1,7 @@
-// What programs print and read: bytes laid over an output, numbers in decimal digits, and inputs read into a buffer.
+// What programs print and read: an output written piece by piece, numbers in decimal digits, and inputs read into a buffer.
 #![tactic(auto)]
 
 pub mod decimal;
 pub mod input;
+pub mod page;
 pub mod put;

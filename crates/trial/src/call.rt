@@ -1,15 +1,12 @@
 // The calls of a node and of the converter, each with what came of it. The image buffer has more than a row behind the longest image and
 // the output 8 bytes behind what a call asks, so that bytes behind what a call writes are seen to stay.
-ghost use Rattle.std.specs.Prelude.{◌≤◌, length};
-
 use crate::show;
-use crate::step::Step;
-use converter::calls::{Conversion, convert};
+use crate::step::{Fault, Step};
+use converter::calls::convert;
 use node::calls;
 use node::calls::Answer;
 use node::image::MOST_IMAGE;
 use rules::node::Node;
-use std::io;
 
 // Bytes of the image buffer.
 pub(crate) const IMAGE: usize = MOST_IMAGE + 48;
@@ -17,76 +14,48 @@ pub(crate) const IMAGE: usize = MOST_IMAGE + 48;
 // Bytes of the output.
 pub(crate) const OUT: usize = Node::ROOM + 8;
 
-// The kind of a step that boots; the other that comes here delivers.
-const BOOT: u32 = 5;
-
-fn boot_or_deliver(step: Step, data: &[u8], image: &mut [u8], out: &mut [u8]) -> Answer {
-    if step.kind == BOOT {
-        return calls::boot(data, image, out);
-    }
-    calls::deliver(image, step.port, data, out)
-}
-
-// Lends only the first bytes of the two buffers, for calls that have too little room.
-fn lend(step: Step, data: &[u8], image: &mut [u8], out: &mut [u8]) -> Answer
-    requires { (step.size ≤ length image.old) × (step.room ≤ length out.old) }
-{
-    let size = step.size;
-    let room = step.room;
-    boot_or_deliver(step, data, &mut image[0..size], &mut out[0..room])
-}
-
-// Boots or delivers with a fresh output, and prints what came of it.
-pub(crate) fn run(
+// Boots or delivers with a fresh output, and prints what came of it. The call is lent only the first bytes of the two buffers, so that it
+// may have too little room.
+pub(crate) fn run<F: FnOnce(&mut [u8], &mut [u8]) -> Answer>(
     rt: &impl Print,
     step: Step,
-    data: &[u8],
     image: &mut [u8; IMAGE],
-) -> io::Result<bool> {
-    if step.size > IMAGE {
-        return Ok(false);
-    }
-    if step.room > OUT {
-        return Ok(false);
+    call: F,
+) -> Result<(), Fault>
+    requires { F.IsAlwaysCallable call }
+{
+    if step.size > IMAGE || step.room > OUT {
+        return Err(Fault::NoStep);
     }
     let old = *image;
     let mut out = [165u8; OUT];
-    let answer = lend(step, data, image, &mut out);
+    let answer = call(&mut image[..step.size], &mut out[..step.room]);
     show::answer(rt, step, answer, &old, image, &out)?;
-    Ok(true)
+    Ok(())
 }
 
-// Lends only the first bytes of the image buffer, for conversions that have too little room.
-fn lend_to_convert(step: Step, old: &[u8], image: &mut [u8]) -> Conversion
-    requires { step.size ≤ length image.old }
-{
-    let size = step.size;
-    convert(old, &mut image[0..size])
-}
-
-// Converts an old image, and prints what came of it.
+// Converts an old image into the first bytes of the image buffer, and prints what came of it.
 pub(crate) fn make_new(
     rt: &impl Print,
     step: Step,
     data: &[u8],
     image: &mut [u8; IMAGE],
-) -> io::Result<bool> {
+) -> Result<(), Fault> {
     if step.size > IMAGE {
-        return Ok(false);
+        return Err(Fault::NoStep);
     }
     let before = *image;
-    let made = lend_to_convert(step, data, image);
+    let made = convert(data, &mut image[..step.size]);
     show::conversion(rt, step, made, &before, image)?;
-    Ok(true)
+    Ok(())
 }
 
-pub(crate) fn read(rt: &impl Print, step: Step, image: &[u8]) -> io::Result<bool> {
-    let size = step.size;
-    if size > image.len() {
-        return Ok(false);
+pub(crate) fn read(rt: &impl Print, step: Step, image: &[u8; IMAGE]) -> Result<(), Fault> {
+    if step.size > IMAGE {
+        return Err(Fault::NoStep);
     }
-    let reading = calls::read(&image[0..size]);
+    let reading = calls::read(&image[..step.size]);
     show::pair(rt, reading.number, reading.clock)?;
     show::end(rt)?;
-    Ok(true)
+    Ok(())
 }

@@ -7,21 +7,23 @@ mod show;
 mod step;
 
 use crate::call::IMAGE;
+use crate::step::Fault;
 use std::io;
 use text::input::read_full;
 
 // Bytes that are read at most.
 const MOST: usize = 65_536;
 
+// (Program `edges` goes through its cases in the same way; four lines are not worth a crate that only tests use.)
 // Takes one step after the other on one image, as what a call left is what the next one is lent; ends at the first that is none.
 fn take_all(rt: &impl Print, b: &[u8], image: &mut [u8; IMAGE]) -> io::Result<()> {
-    let mut at = 0;
-    while at < b.len() {
-        let used = step::take(rt, &b[at..], image)?;
-        if used == 0 {
-            return show::bad(rt);
+    let mut rest = b;
+    while !rest.is_empty() {
+        match step::take(rt, rest, image) {
+            Ok(behind) => rest = behind,
+            Err(Fault::NoStep) => return show::bad(rt),
+            Err(Fault::Output(e)) => return Err(e),
         }
-        at += used;
     }
     Ok(())
 }

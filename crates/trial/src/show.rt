@@ -33,20 +33,15 @@ fn byte(rt: &impl Print, i: usize, x: u8) -> io::Result<()> {
 
 // The bytes of b from one place up to another.
 pub(crate) fn bytes(rt: &impl Print, b: &[u8], from: usize, to: usize) -> io::Result<()> {
-    let mut i = from;
-    while i < to {
-        if i < b.len() {
-            byte(rt, i, b[i])?;
-        }
-        i += 1;
+    for i in from..to.min(b.len()) {
+        byte(rt, i, b[i])?;
     }
     Ok(())
 }
 
-pub(crate) fn image(rt: &impl Print, b: &[u8], to: usize) -> io::Result<bool> {
+pub(crate) fn image(rt: &impl Print, b: &[u8], to: usize) -> io::Result<()> {
     bytes(rt, b, 0, to)?;
-    end(rt)?;
-    Ok(true)
+    end(rt)
 }
 
 fn part(rt: &impl Print, b: &[u8], from: usize, to: usize) -> io::Result<()> {
@@ -59,16 +54,10 @@ fn part(rt: &impl Print, b: &[u8], from: usize, to: usize) -> io::Result<()> {
 
 // Whether a buffer kept its bytes from one place up to another.
 fn kept(old: &[u8], new: &[u8], from: usize, to: usize) -> bool {
-    if to < from {
-        return false;
+    match (old.get(from..to), new.get(from..to)) {
+        (Some(before), Some(after)) => before == after,
+        _ => false,
     }
-    if old.len() < to {
-        return false;
-    }
-    if new.len() < to {
-        return false;
-    }
-    old[from..to] == new[from..to]
 }
 
 // Whether all is as it was but the bytes of the image that the line shows, which the model's line is held against, and those of

@@ -13,21 +13,21 @@ judged c =
     let old = c.args.old.now in
     c.has_header.ensures ∙ ap (λ (L : Layout). headed L old) c.old.ensures
 
-pub returns-then-not-has_header : goal.returns-then-not-has_header
-unfolding sound_image
-returns-then-not-has_header c =
-    let asked = (goal.at.returns-then-not-has_header c).After-has_header in
-    rw (sym (judged asked) ∙ c.if-not-has_header.true)
-
 pub is_sound_old_state-requires : goal.is_sound_old_state-requires
 is_sound_old_state-requires c =
     let asked = (goal.at.is_sound_old_state-requires c).After-has_header in
     let old = c.args.old.now in
-    let head = headed_facts old_layout old (sym (judged asked) ∙ c.if-not-has_header.false) in
+    let head = headed_facts old_layout old (sym (judged asked) ∙ c.if-has_header.true) in
     rows_inside old_layout old head.fixed head.stated
 
-pub returns : goal.returns
+pub returns-then-has_header : goal.returns-then-has_header
 unfolding sound_image
-returns c =
-    let asked = (goal.at.returns c).After-has_header in
-    rw (sym (judged asked) ∙ c.if-not-has_header.false) c.is_sound_old_state.ensures
+returns-then-has_header c =
+    let asked = (goal.at.returns-then-has_header c).After-has_header in
+    rw (sym (judged asked) ∙ c.if-has_header.true) c.is_sound_old_state.ensures
+
+pub returns-else-has_header : goal.returns-else-has_header
+unfolding sound_image
+returns-else-has_header c =
+    let asked = (goal.at.returns-else-has_header c).After-has_header in
+    rw (sym (judged asked) ∙ c.if-has_header.false) c.if-has_header.false

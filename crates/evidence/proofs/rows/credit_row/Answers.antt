@@ -7,22 +7,22 @@ use lib.ListN.{length}
 use Rattle.fields.specs.Field.{Bytes}
 use Rattle.sets.specs.Sets.{mask_bytes}
 use Rattle.sets.specs.Ticks.{Held, add}
-use Rattle.evidence.specs.Holders.{found_by, place_of}
+use Rattle.evidence.specs.Holders.{place_told, place_of}
 use Rattle.evidence.specs.Rows.{row_bytes, rows_at, set_at, put_set, put_rows}
 use Rattle.evidence.proofs.Credits.{credit_at, credit_none, place_none, place_le}
 use Rattle.evidence.proofs.Layouts.{put_rows_lem}
-use Rattle.evidence.proofs.rows.credit_row.Goals.{In-At}
+use Rattle.evidence.proofs.rows.credit_row.Goals.{In-Some}
 use Rattle.evidence.proofs.rows.credit_row.Goals as goal
 
 -- the row was found at place k, which is one of the n
-placed : (c : In-At) →
+placed : (c : In-Some) →
     let a = c.args in
-    place_of a.serial (rows_at mask_bytes a.n a.b.now a.i) ≡ suc c.in-At.k
-placed c = sym c.find_row.ensures ∙ ap found_by c.in-At.is
+    place_of a.serial (rows_at mask_bytes a.n a.b.now a.i) ≡ suc c.in-Some.k
+placed c = sym (c.find.ensures ∙ ap (place_of c.args.serial) c.new.ensures) ∙ ap place_told c.in-Some.is
 
-room : (c : In-At) →
+room : (c : In-Some) →
     let a = c.args in
-    a.i + row_bytes * c.in-At.k + row_bytes ≤ length a.b.now
+    a.i + row_bytes * c.in-Some.k + row_bytes ≤ length a.b.now
 room c =
     let a = c.args in
     omega (arith, placed c, place_le a.serial mask_bytes a.n a.b.now a.i, c.requires.inside)
@@ -33,27 +33,27 @@ overflow_mul-at c = omega (arith, room c)
 pub overflow_add-at : goal.overflow_add-at
 overflow_add-at c = omega (arith, room c)
 
-pub overflow_add-at-in-At : goal.overflow_add-at-in-At
-overflow_add-at-in-At c =
-    let row = (goal.at.overflow_add-at-in-At c).In-At in
+pub overflow_add-at-in-Some : goal.overflow_add-at-in-Some
+overflow_add-at-in-Some c =
+    let row = (goal.at.overflow_add-at-in-Some c).In-Some in
     omega (arith, room row, c.set_place.ensures.1)
 
 pub read_set-requires : goal.read_set-requires
 read_set-requires c =
-    let row = (goal.at.read_set-requires c).In-At in
+    let row = (goal.at.read_set-requires c).In-Some in
     omega (arith, room row, c.set_place.ensures.1)
 
 pub store_set-requires : goal.store_set-requires
 store_set-requires c =
-    let row = (goal.at.store_set-requires c).In-At in
+    let row = (goal.at.store_set-requires c).In-Some in
     omega (arith, room row, c.set_place.ensures.1)
 
-pub returns-in-At : goal.returns-in-At
-returns-in-At c =
-    let found = (goal.at.returns-in-At c).In-At in
+pub returns-in-Some : goal.returns-in-Some
+returns-in-Some c =
+    let found = (goal.at.returns-in-Some c).In-Some in
     let a = c.args in
     let b = a.b.now in
-    let k = c.in-At.k in
+    let k = c.in-Some.k in
     let row = a.i + row_bytes * k in
     let place = c.set_place in
     let bytes : Bytes b = λ i. (c.slice_known-1.given i).fits in
@@ -68,7 +68,7 @@ pub returns-in_default : goal.returns-in_default
 returns-in_default c =
     let a = c.args in
     let b = a.b.now in
-    let nowhere = sym c.find_row.ensures ∙ ap found_by c.in_default.is in
+    let nowhere = sym (c.find.ensures ∙ ap (place_of a.serial) c.new.ensures) ∙ ap place_told c.in_default.is in
     let none = place_none mask_bytes a.serial a.n b a.i nowhere in
     sym
     (ap (put_rows mask_bytes b a.i) (credit_none mask_bytes a.w a.serial a.kind a.j a.n b a.i none)

@@ -19,6 +19,7 @@ returns c =
     let known = c.type_inv.serials in
     rw (
       c.judge.ensures,
+      c.new.ensures,
       c.put_serials.ensures,
       words_put_words 4 (replicate (most_lines * 4) 0) 0 serials (lit≤ tt) (omega arith) (λ k. omega (arith, known k)),
     )

@@ -26,23 +26,18 @@ unfolding put_words
 store-end out i k serials p = ap (put_words 4 out i) (drop_of_length-le serials p)
 
 pub loop-k-init : goal.loop-k-init
-loop-k-init c = (omega arith, omega arith, simp add-zero)
+loop-k-init c = simp add-zero
 
 pub loop-k-preserved : goal.loop-k-preserved
 loop-k-preserved c =
     let a = c.args in
     let l = c.loop-k in
-    let p = c.loop-k-test.true in
-    let e = c.put_word.ensures in (
-      omega arith,
-      omega arith,
-      ap (λ (out : List ℕ). put_words 4 out (a.i + 4 * (l.k + 1)) (drop (l.k + 1) a.serials.now)) e
-          ∙ store_step l.out a.i l.k a.serials.now p
-          ∙ l.invariant.2,
-    )
+    ap (λ (out : List ℕ). put_words 4 out (a.i + 4 * (l.k + 1)) (drop (l.k + 1) a.serials.now)) c.put_word.ensures
+    ∙ store_step l.out a.i l.k a.serials.now c.loop-k-test.true
+    ∙ l.invariant
 
 pub returns : goal.returns
 returns c =
     let a = c.args in
     let l = c.loop-k in
-    sym (store-end l.out (a.i + 4 * l.k) l.k a.serials.now c.loop-k-test.false) ∙ l.invariant.2
+    sym (store-end l.out (a.i + 4 * l.k) l.k a.serials.now c.loop-k-test.false) ∙ l.invariant

@@ -1,12 +1,9 @@
 -- `form::put_serials` meets its contract: to store the serials from line k on into what is there is to store them all into what was.
 use mathlib.Core.Path.{◌≡◌}
-use Prim.Native.Nat.{◌+◌, ◌*◌, ◌-◌, ◌≤◌}
-use lib.ListN.{length, drop}
+use Prim.Native.Nat.{◌+◌, ◌*◌}
+use lib.ListN.{drop}
 use Rattle.fields.specs.Field.{put_words}
 use Rattle.forms.proofs.form.put_serials.Given as goal
 
 abbrev pub invariant-loop-k : goal.invariant-loop-k
-invariant-loop-k l = (length l.out ≡ length l.initial.out) × (l.k ≤ length l.serials) × (put_words 4 l.out (l.i + 4 * l.k) (drop l.k l.serials) ≡ put_words 4 l.initial.out l.i l.serials)
-
-abbrev pub decreases-loop-k : goal.decreases-loop-k
-decreases-loop-k l = length l.serials - l.k
+invariant-loop-k l = put_words 4 l.out (l.i + 4 * l.k) (drop l.k l.serials) ≡ put_words 4 l.initial.out l.i l.serials

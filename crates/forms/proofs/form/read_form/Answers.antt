@@ -8,7 +8,7 @@ use borrow.Author.Tests.{lt-ltb, le-ltb, eq-eqb, ne_eqb}
 use Rattle.fields.specs.Field.{field}
 use Rattle.forms.specs.Form.{serials_place, form_size, lines_of, faults_of, own_of, serials_of, form_number, form_told}
 use Rattle.forms.specs.Roster.{roster_number}
-use Rattle.forms.proofs.Told.{form_refused, form_taken}
+use Rattle.forms.proofs.Told.{passed_on, form_refused, form_taken}
 use Rattle.forms.proofs.form.read_form.Goals as goal
 
 pub returns-then-b-lt-SERIALS : goal.returns-then-b-lt-SERIALS
@@ -58,14 +58,15 @@ past b own long offset size read =
       read,
     )
 
-pub returns-in-Broken : goal.returns-in-Broken
-returns-in-Broken c =
+pub returns-in_err-judge : goal.returns-in_err-judge
+returns-in_err-judge c =
     let b = c.args.b.now in
     let number = past b c.word-own.result c.if-b-lt-SERIALS.false (omega arith) c.if-b-n.false c.word-own.ensures in
-    sym (form_refused b c.in-Broken.why (number ∙ sym c.in-Broken.ensures))
+    rw (passed_on c.from_residual.result c.from_residual.ensures.1)
+    (sym (form_refused b c.in_err-judge.field-0.0 (number ∙ rw (← c.new.ensures) (sym c.in_err-judge.ensures))))
 
-pub returns-in-Sound : goal.returns-in-Sound
-returns-in-Sound c =
+pub returns : goal.returns
+returns c =
     let b = c.args.b.now in
     let number = past b c.word-own.result c.if-b-lt-SERIALS.false (omega arith) c.if-b-n.false c.word-own.ensures in
-    rw c.word-own.ensures (sym (form_taken b (number ∙ sym c.in-Sound.ensures)))
+    rw c.word-own.ensures (sym (form_taken b (number ∙ rw (← c.new.ensures) (sym c.in_ok-judge.ensures))))

@@ -1,5 +1,5 @@
--- `player::play_event` meets its contract: the delivery of what stands at the event's place is the event's call, and the line shows it.
-use mathlib.Core.Path.{◌≡◌, refl, ap, ap₂, ◌∙◌}
+-- `player::play_event` meets its contract: the delivery of what stands at the event's place is the event's call, and its line the call's.
+use mathlib.Core.Path.{◌≡◌, ap, ap₂, ◌∙◌}
 use mathlib.Core.List.{List}
 use Prim.Native.Nat.{ℕ, ◌+◌, ◌-◌}
 use native.Mathlib.Omega.{arith}
@@ -11,7 +11,7 @@ use Rattle.node.specs.Calls.{Outcome, deliver_outcome}
 use Rattle.node.specs.Layout.{layout}
 use Rattle.logs.specs.Listing.{event_call}
 use Rattle.logs.specs.Log.{event_size}
-use Rattle.logs.proofs.Lines.{puts_call}
+use Rattle.logs.specs.Played.{call_line}
 use Rattle.logs.proofs.player.play_event.Goals as goal
 
 -- a delivery of the frame and from the port that stand at a place of the log is the call of the event there
@@ -29,10 +29,7 @@ returns c =
     let is =
     delivers a.log.now a.image.now a.sent.now a.place size (omega arith) c.word-port.ensures c.deliver-answer.ensures in
     record {
-      event = refl;
-      number = ap (λ (o : Outcome). o.number) is;
-      records = ap (λ (o : Outcome). o.records) is;
+      line = c.of_call.ensures ∙ ap (call_line a.event) is;
       image_left_lem = ap (λ (o : Outcome). o.image) is;
       out_left = ap (λ (o : Outcome). o.out) is;
-      line = puts_call (a.before.event + 1) is c.word-k.ensures c.put_line-next.ensures;
     }

@@ -1,112 +1,104 @@
--- `image::is_sound_state` meets its contract: each test that fails makes one part of a sound state false, and past them the last part
--- decides.
-use mathlib.Core.Path.{◌≡◌, sym, ap, ◌∙◌}
-use mathlib.Core.Bool.{◌&&◌}
+-- `image::is_sound_state` meets its contract: its tests, one after the other, are the definition's, and a roster in order has as many rows
+-- as the rules ask.
+use mathlib.Core.Path.{◌≡◌, refl, sym, ap, ◌∙◌}
+use mathlib.Core.Bool.{Bool, and-eq-true_iff, ◌&&◌}
 use mathlib.Core.List.{List}
-use Prim.Native.Nat.{ℕ, ◌≤◌}
+use Prim.Native.Nat.{ℕ}
 use native.Mathlib.Omega.{arith}
-use borrow.Author.Tests.{le-leb, lt-leb}
-use lib.Dec.{leb}
-use Rattle.fields.specs.Field.{words}
+use borrow.Author.Tests.{eqb-true}
+use lib.Dec.{eqb, leb}
+use lib.ListN.{length}
+use Rattle.std.specs.Prelude.{Result, Ok, Err}
+use Rattle.std.specs.Result.{is_ok}
 use Rattle.forms.specs.Number.{verdict_of}
 use Rattle.forms.specs.Roster.{roster_number}
+use Rattle.forms.specs.declared.answer.Refusal.{Refusal}
 use Rattle.forms.proofs.Told.{refusal}
 use Rattle.sets.specs.Sets.{mask_bytes}
-use Rattle.evidence.specs.Rows.{Row, row_bytes, rows_at, proper_rows}
+use Rattle.evidence.specs.Rows.{Row, rows_at, proper_rows}
 use Rattle.evidence.specs.Serials.{serials_in}
-use Rattle.evidence.proofs.Layouts.{serials_of_rows}
+use Rattle.evidence.proofs.Layouts.{length_rows}
 use Rattle.rules.specs.Describe.{window, last_tick}
 use Rattle.node.specs.Image.{state_with, sound_state}
 use Rattle.node.specs.Layout.{layout, header_size}
 use Rattle.rules.specs.Rules.{first_rule, at_rest}
 use Rattle.rules.specs.declared.node.Node.{Node}
 use Rattle.node.proofs.Sound.{rows_limits}
-use Rattle.node.proofs.image.is_sound_state.Goals.{In_default}
+use Rattle.node.proofs.image.is_sound_state.Goals.{Joined-is_ok, then-is_ok, else-is_ok}
+use Rattle.node.proofs.image.is_sound_state.Goals.{Joined-has_sound_clock, then-has_sound_clock, else-has_sound_clock}
 use Rattle.node.proofs.image.is_sound_state.Goals as goal
 
 -- the rows that the bytes hold for a node
 abbrev held : Node → List ℕ → List Row
 held p b = rows_at mask_bytes p.lines b header_size
 
--- the roster's number is the verdict's
-judged : {k : ℕ} (p : Node) (b : List ℕ)
-    → k ≡ roster_number p.faults p.own (words p.lines row_bytes b header_size)
-    → roster_number p.faults p.own (serials_in (held p b)) ≡ k
-judged p b verdict = ap (roster_number p.faults p.own) (serials_of_rows mask_bytes p.lines b header_size) ∙ sym verdict
+-- the tests of a node and its bytes: the roster, the clock, and the sets
+abbrev in_order : Node → List ℕ → Bool
+in_order p b = eqb (roster_number p.faults p.own (serials_in (held p b))) 0
 
-pub returns-in-Broken : goal.returns-in-Broken
-unfolding sound_state
-returns-in-Broken c =
-    let a = c.args in
-    rw (judged a.node a.b.now c.judge.ensures, c.in-Broken.is, refusal c.in-Broken.field-0)
+abbrev clock : Node → Bool
+clock p = leb p.mode 1 && (leb p.sent p.tick && leb p.tick last_tick)
 
--- past the refusal the roster is in order
-roster : (c : In_default) →
-    let a = c.args in
-    roster_number a.node.faults a.node.own (serials_in (held a.node a.b.now)) ≡ 0
-roster c = judged c.args.node c.args.b.now c.judge.ensures ∙ ap verdict_of c.in_default.is
+abbrev proper : Node → List ℕ → Bool
+proper p b = proper_rows window last_tick (held p b)
 
-pub returns-then-node-gt1 : goal.returns-then-node-gt1
-unfolding sound_state
-returns-then-node-gt1 c =
-    rw (roster (goal.at.returns-then-node-gt1 c).In_default, lt-leb c.args.node.mode 1 (omega arith))
+-- what is no refusal has number 0
+accepted : {T : Type 0} (r : Result T Refusal) → is_ok r ≡ eqb (verdict_of r) 0
+accepted (Ok x) = refl
+accepted (Err why) = sym (refusal why)
 
-pub returns-then-node : goal.returns-then-node
-unfolding sound_state
-returns-then-node c =
+-- the first two tests
+front : (c : Joined-is_ok) → let a = c.args in c.if-is_ok.value ≡ (in_order a.node a.b.now && clock a.node)
+front c =
     let p = c.args.node in
-    rw (
-      roster (goal.at.returns-then-node c).In_default,
-      le-leb p.mode 1 (omega arith),
-      lt-leb p.sent p.tick (omega arith),
-    )
+    let b = c.args.b.now in
+    let serials = c.serials.ensures ∙ ap serials_in c.new-rows.ensures in
+    let number = c.judge.ensures ∙ ap (roster_number p.faults p.own) serials in
+    let roster : c.is_ok.result ≡ in_order p b =
+    c.is_ok.ensures.value ∙ accepted c.judge.result ∙ ap (λ (n : ℕ). eqb n 0) number in
+    elim c.if-is_ok.branch [
+      | then-is_ok w ↦ rw (w.value-is, w.has_sound_clock.ensures, sym roster ∙ w.if-is_ok.true)
+      | else-is_ok w ↦ rw (w.value-is, sym roster ∙ w.if-is_ok.false, w.if-is_ok.false)
+    ]
 
-module _ (p : Node) (b : List ℕ) (in_order : roster_number p.faults p.own (serials_in (held p b)) ≡ 0)
-    (mode : p.mode ≤ 1) (sent : p.sent ≤ p.tick) where
-  -- past the tests of mode and last echo
-  ticks : sound_state window last_tick (state_with layout p b)
-      ≡ (leb p.tick last_tick && (proper_rows window last_tick (held p b) && at_rest (first_rule window last_tick (held p b) p)))
-  unfolding sound_state
-  ticks = rw (in_order, le-leb p.mode 1 mode, le-leb p.sent p.tick sent)
+-- and the third
+sets : (c : Joined-has_sound_clock) → let a = c.args in c.if-has_sound_clock.value ≡ (c.if-is_ok.value && proper a.node a.b.now)
+sets c =
+    elim c.if-has_sound_clock.branch [
+      | then-has_sound_clock w ↦ rw (w.value-is, w.are_proper.ensures, c.new-rows.ensures, w.if-has_sound_clock.true)
+      | else-has_sound_clock w ↦ rw (w.value-is, w.if-has_sound_clock.false)
+    ]
 
-  -- past the tests of the node only the rows and the rules are left
-  rows : p.tick ≤ last_tick
-      → sound_state window last_tick (state_with layout p b)
-      ≡ (proper_rows window last_tick (held p b) && at_rest (first_rule window last_tick (held p b) p))
-  rows tick = rw (ticks, le-leb p.tick last_tick tick)
-
-pub returns-then-node-gt-LAST_TICK : goal.returns-then-node-gt-LAST_TICK
-returns-then-node-gt-LAST_TICK c =
-    let a = c.args in
-    let in_order = roster (goal.at.returns-then-node-gt-LAST_TICK c).In_default in
-    rw (ticks a.node a.b.now in_order (omega arith) (omega arith), lt-leb a.node.tick last_tick (omega arith))
-
-pub returns-then-not-are_proper : goal.returns-then-not-are_proper
-returns-then-not-are_proper c =
-    let a = c.args in
-    let in_order = roster (goal.at.returns-then-not-are_proper c).In_default in
-    rw (
-      rows a.node a.b.now in_order (omega arith) (omega arith) (omega arith),
-      ← c.are_proper.ensures,
-      c.if-not-are_proper.true,
-    )
+-- the tests in the code's order are those of the definition
+tests : (p : Node) (b : List ℕ) (first second : Bool)
+    → first ≡ (in_order p b && clock p)
+    → second ≡ (first && proper p b)
+    → (second && at_rest (first_rule window last_tick (held p b) p)) ≡ sound_state window last_tick (state_with layout p b)
+unfolding sound_state
+tests p b first second e f = rw (f, e) (grind arith)
 
 pub rule-requires : goal.rule-requires
 rule-requires c =
-    let a = c.args in
-    let p = a.node in
-    let in_order = roster (goal.at.rule-requires c).In_default in
-    let limits = rows_limits p.faults p.own mask_bytes p.lines a.b.now header_size in_order in
-    record { inside = c.requires; fewer = omega arith }
+    let p = c.args.node in
+    let b = c.args.b.now in
+    let all = (and-eq-true_iff _ _).0 (sym (sets (goal.at.rule-requires c).Joined-has_sound_clock) ∙ c.if-are_proper.true) in
+    let two = (and-eq-true_iff _ _).0 (sym (front (goal.at.rule-requires c).Joined-is_ok) ∙ all.0) in
+    let limits = rows_limits p.faults p.own mask_bytes p.lines b header_size (eqb-true _ 0 two.0) in
+    record {
+      lines = ap length c.new-rows.ensures ∙ length_rows mask_bytes p.lines b header_size;
+      fewer = omega (arith, limits);
+    }
 
-pub returns : goal.returns
-returns c =
+pub returns-then-are_proper : goal.returns-then-are_proper
+returns-then-are_proper c =
     let a = c.args in
-    let in_order = roster (goal.at.returns c).In_default in
-    rw (
-      rows a.node a.b.now in_order (omega arith) (omega arith) (omega arith),
-      ← c.are_proper.ensures,
-      c.if-not-are_proper.false,
-      ← c.rule.ensures,
-    )
-    c.is_at_rest.ensures
+    let first = front (goal.at.returns-then-are_proper c).Joined-is_ok in
+    let second = sets (goal.at.returns-then-are_proper c).Joined-has_sound_clock in
+    rw (← tests a.node a.b.now _ _ first second, c.if-are_proper.true, ← c.new-rows.ensures, ← c.rule.ensures) c.is_at_rest.ensures
+
+pub returns-else-are_proper : goal.returns-else-are_proper
+returns-else-are_proper c =
+    let a = c.args in
+    let first = front (goal.at.returns-else-are_proper c).Joined-is_ok in
+    let second = sets (goal.at.returns-else-are_proper c).Joined-has_sound_clock in
+    rw (← tests a.node a.b.now _ _ first second, c.if-are_proper.false)

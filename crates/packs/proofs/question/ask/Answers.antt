@@ -1,57 +1,43 @@
--- `question::ask` meets its contract: what the image refuses comes first, then what the sheet refuses, and a sheet that is taken is asked
--- at the node's clock.
-use mathlib.Core.Path.{◌≡◌, sym, ap, ◌∙◌}
+-- `question::ask` meets its contract: what the node refuses comes first, then what the sheet does, and else the entries say.
+use Rattle.std.proofs.Common.{◌≡◌, ap, sym, ◌∙◌, ℕ}
+use Rattle.std.proofs.lemmas.Result.{err_from_is_err_and}
 use Rattle.rules.specs.Describe.{last_tick}
 use Rattle.node.specs.Calls.{Reading, reading}
 use Rattle.node.specs.Layout.{layout}
-use Rattle.packs.specs.Sheet.{count_of, sheet_number, told_by}
-use Rattle.packs.proofs.Told.{told_refused, told_taken, sheet_lines, pack_unread, read_passive, refused_pack_lem, pack_told_lem}
-use Rattle.packs.specs.declared.answer.Refusal.TheVariants.{Image, Passive}
-use Rattle.packs.proofs.question.ask.Goals.{After-read-told, In-Taken}
+use Rattle.packs.specs.Question.{licence, PackTold}
+use Rattle.packs.proofs.Told.{told_unread, told_refused, pack_told_lem}
+use Rattle.packs.proofs.question.ask.Goals.{In_ok-tick}
 use Rattle.packs.proofs.question.ask.Goals as goal
 
--- the number that read gave
-number : (c : After-read-told) → (reading layout last_tick c.args.image.now).number ≡ c.read-told.result.number
-number c = ap (λ (r : Reading). r.number) (sym c.read-told.ensures)
-
-pub returns-then-told-eq8 : goal.returns-then-told-eq8
-returns-then-told-eq8 c =
+pub returns-in_err-tick : goal.returns-in_err-tick
+returns-in_err-tick c =
     let a = c.args in
-    let read = (goal.at.returns-then-told-eq8 c).After-read-told in
-    sym (pack_unread layout last_tick a.sheet.now a.pack a.image.now Image (number read ∙ c.if-told-eq8.true))
+    let why = c.in_err-tick.field-0.0 in
+    let passed = err_from_is_err_and c.from_residual.result c.from_residual.ensures.1 in
+    rw (passed.1, passed.2)
+    (sym (told_unread layout last_tick a.sheet.now a.pack a.image.now why (sym (ap (λ (r : Reading). r.number) c.in_err-tick.ensures))))
 
-pub returns-then-told-ne0 : goal.returns-then-told-ne0
-returns-then-told-ne0 c =
+-- past the first test the node tells its clock
+active : (c : In_ok-tick) → (reading layout last_tick c.args.image.now).number ≡ 0
+active c = sym (ap (λ (r : Reading). r.number) c.in_ok-tick.ensures)
+
+pub returns-in_err-entries : goal.returns-in_err-entries
+returns-in_err-entries c =
     let a = c.args in
-    let read = (goal.at.returns-then-told-ne0 c).After-read-told in
-    let unsound = c.if-told-eq8.false in
-    let passive =
-    read_passive layout last_tick a.sheet.now a.pack a.image.now
-    (λ e. unsound (sym (number read) ∙ e)) (λ e. c.if-told-ne0.true (sym (number read) ∙ e)) in
-    sym (pack_unread layout last_tick a.sheet.now a.pack a.image.now Passive passive)
+    let why = c.in_err-entries.field-0.0 in
+    let passed = err_from_is_err_and c.from_residual-in_err-entries.result c.from_residual-in_err-entries.ensures.1 in
+    let clock = active (goal.at.returns-in_err-entries c).In_ok-tick in
+    rw (passed.1, passed.2)
+    (sym (told_refused layout last_tick a.sheet.now a.pack a.image.now clock why (sym c.in_err-entries.ensures.0)))
 
--- a sheet that the reader took has number 0, and the count told is its own
-taken : (c : In-Taken) → (sheet_number c.args.sheet.now ≡ 0) × (c.in-Taken.count ≡ count_of c.args.sheet.now)
-taken c = told_taken c.args.sheet.now c.in-Taken.count (ap told_by (sym c.in-Taken.is) ∙ c.read_sheet.ensures)
+-- what is told with number 0 is how the pack stands
+told : {k n : ℕ} → k ≡ n → ◌≡◌ {A = PackTold} (record { number = 0; licence = k }) (record { number = 0; licence = n })
+told e d = record { number = 0; licence = e d }
 
-pub find_licence-requires : goal.find_licence-requires
-find_licence-requires c =
-    let t = taken c in
-    rw t.1 (sheet_lines c.args.sheet.now t.0)
-
-pub returns-in-Refused : goal.returns-in-Refused
-returns-in-Refused c =
+pub returns : goal.returns
+returns c =
     let a = c.args in
-    let why = c.in-Refused.why in
-    let clock = number (goal.at.returns-in-Refused c).After-read-told ∙ c.if-told-ne0.false in
-    let told = ap told_by (sym c.in-Refused.is) ∙ c.read_sheet.ensures in
-    sym (refused_pack_lem layout last_tick a.sheet.now a.pack a.image.now clock why (told_refused a.sheet.now why told))
-
-pub returns-in-Taken : goal.returns-in-Taken
-returns-in-Taken c =
-    let a = c.args in
-    let read = (goal.at.returns-in-Taken c).After-read-told in
-    let clock = number read ∙ c.if-told-ne0.false in
-    let t = taken (goal.at.returns-in-Taken c).In-Taken in
-    rw (c.find_licence.ensures, t.1, ap (λ (r : Reading). r.clock) read.read-told.ensures)
-    (sym (pack_told_lem layout last_tick a.sheet.now a.pack a.image.now clock t.0))
+    let clock = active (goal.at.returns c).In_ok-tick in
+    let tick = ap (λ (r : Reading). r.clock) c.in_ok-tick.ensures in
+    rw (pack_told_lem layout last_tick a.sheet.now a.pack a.image.now clock (sym c.in_ok-entries.ensures.0))
+    (told (c.licence.ensures ∙ rw (tick, c.in_ok-entries.ensures.1)))

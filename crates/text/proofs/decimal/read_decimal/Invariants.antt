@@ -1,15 +1,8 @@
-use Rattle.std.proofs.Common.{◌≡◌, ◌≤◌, ◌-◌, ℕ, List, length, drop}
+-- What the digits so far make is a number of 32 bits, and the text says what the digits behind them make of it.
+use Rattle.std.proofs.Common.{◌≡◌, ◌≤◌, drop}
 use Rattle.text.specs.Decimal.{most_number, read_from, decimal_of}
 use Rattle.text.proofs.decimal.read_decimal.Given as goal
 
--- where a turn begins: a number of the digits before k
-pub record Reading (text : List ℕ) (value k : ℕ) : Type 0 where
-  pub inside : k ≤ length text
-  pub few : value ≤ most_number
-  pub behind : read_from value (drop k text) ≡ decimal_of text
-
-abbrev pub invariant-loop-k : goal.invariant-loop-k
-invariant-loop-k l = Reading l.text l.value l.k
-
-abbrev pub decreases-loop-k : goal.decreases-loop-k
-decreases-loop-k l = length l.text - l.k
+abbrev pub invariant-loop-x : goal.invariant-loop-x
+invariant-loop-x l =
+    record { few : l.value ≤ most_number; behind : read_from l.value (drop l.x-index l.text) ≡ decimal_of l.text }

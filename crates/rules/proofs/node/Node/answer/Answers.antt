@@ -1,31 +1,22 @@
 -- `Node::answer` meets its contract: two tests find another serial that asks, and each that fails leaves no answer.
-use mathlib.Core.Path.{◌≡◌, sym, ◌∙◌}
-use mathlib.Core.Bool.{true, false}
 use borrow.Author.Tests.{eq-eqb, ne_eqb}
-use Rattle.rules.specs.Delivery.{asks, answer}
+use Rattle.rules.specs.Delivery.{answer}
 use Rattle.rules.proofs.Records.{sent_none, sent_one}
+use Rattle.rules.proofs.node.Node.answer.Goals.{else-asks_answer-via-then-asks_answer+else-port-self, else-asks_answer-via-else-asks_answer}
 use Rattle.rules.proofs.node.Node.answer.Goals as goal
 
 pub returns-then-port-self : goal.returns-then-port-self
 unfolding answer
 returns-then-port-self c =
-    let asked : asks c.args.frame ≡ true =
-    sym c.asks_answer.ensures ∙ c.if-asks_answer.true in
-    let other = c in
-    let passed = other in
-    let a = passed.args in
-    rw (asked, ne_eqb a.port a.self.own other.if-port-self.true) (sent_one c.put_answer.ensures)
-
-pub returns-else-port-self : goal.returns-else-port-self
-unfolding answer
-returns-else-port-self c =
-    let asked : asks c.args.frame ≡ true =
-    sym c.asks_answer.ensures ∙ c.if-asks_answer.true in
     let a = c.args in
-    rw (asked, eq-eqb a.port a.self.own c.if-port-self.false) sent_none
+    rw (← c.asks_answer.ensures, c.if-asks_answer.true, ne_eqb a.port a.self.own c.if-port-self.true) (sent_one c.put_answer.ensures)
 
-pub returns-else-asks_answer : goal.returns-else-asks_answer
+pub returns : goal.returns
 unfolding answer
-returns-else-asks_answer c =
-    let silent : asks c.args.frame ≡ false = sym c.asks_answer.ensures ∙ c.if-asks_answer.false in
-    rw silent sent_none
+returns c =
+    let a = c.args in
+    elim c.else-asks_answer.branch [
+      | else-asks_answer-via-then-asks_answer+else-port-self w ↦
+          rw (← c.asks_answer.ensures, w.if-asks_answer.true, eq-eqb a.port a.self.own w.if-port-self.false) sent_none
+      | else-asks_answer-via-else-asks_answer w ↦ rw (← c.asks_answer.ensures, w.if-asks_answer.false) sent_none
+    ]

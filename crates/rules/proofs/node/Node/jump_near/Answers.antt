@@ -2,79 +2,63 @@
 -- down, is the greatest.
 use mathlib.Core.Path.{◌≡◌, refl, sym, ◌∙◌, subst}
 use mathlib.Core.Bool.{false≢true}
-use Prim.Native.Nat.{ℕ, suc, ◌+◌, ◌≤◌}
+use Prim.Native.Nat.{ℕ, suc, ◌-◌, ◌≤◌}
 use native.Mathlib.Decide.{ℕ_discrete}
 use native.Mathlib.Omega.{arith}
 use borrow.Author.Tests.{leb-true, le-leb}
-use lib.Dec.{leb, lit<}
+use lib.Dec.{lit<}
 use Rattle.fields.specs.Kind.{ECHO}
 use Rattle.evidence.specs.Holders.{holders}
-use Rattle.evidence.proofs.Earliest.{full_told}
 use Rattle.evidence.proofs.Greatest.{greatest_none, greatest_is}
 use Rattle.rules.specs.Describe.{window, last_tick}
 use Rattle.rules.specs.Rules.{jump_to}
-use Rattle.rules.specs.Steps.{rows_from}
 use Rattle.rules.proofs.AfterFrame.{calm}
-use Rattle.rules.proofs.node.Node.jump_near.Goals.{After-decide}
 use Rattle.rules.proofs.node.Node.jump_near.Goals as goal
 
-pub loop-left-init : goal.loop-left-init
-loop-left-init c =
-    let credited = c.requires.1 in
-    record { below = λ t q r. (calm window last_tick credited (lit< tt) t (omega arith) r).0; place = omega arith; down = omega arith }
+pub loop-back-init : goal.loop-back-init
+loop-back-init c =
+    record {
+      below = λ t q r. omega (arith, (calm window last_tick c.requires.1 (lit< tt) t (omega arith) (omega arith)).0);
+      above = omega arith;
+    }
 
 pub returns-then-l-next : goal.returns-then-l-next
 returns-then-l-next c =
     let a = c.args in
-    let l = c.loop-left in
-    let none : jump_to window a.self (rows_from a.self a.b.now a.i) ≡ 0 =
-    greatest_none window ECHO _ _ _ (λ t q r s. omega (arith, l.invariant.below t (omega arith) r)) in
+    let none : jump_to window a.self a.rows.now ≡ 0 =
+    greatest_none window ECHO _ _ _ (λ t q r s. omega (arith, c.loop-back.invariant.below t (omega arith) (omega arith))) in
     rw none refl
 
--- whether tick l is held by enough is what was told
-told : (c : After-decide) →
+pub returns-then-is_held : goal.returns-then-is_held
+returns-then-is_held c =
     let a = c.args in
-    let l = c.loop-left in
-    leb (a.self.faults + 1) (holders window ECHO l.l (rows_from a.self a.b.now a.i)) ≡ c.decide.result.held
-told c =
-    let a = c.args in
-    full_told window ECHO c.loop-left.l (a.self.faults + 1) (rows_from a.self a.b.now a.i) c.decide.ensures
-
-pub returns-then-decide : goal.returns-then-decide
-returns-then-decide c =
-    let asked = (goal.at.returns-then-decide c).After-decide in
-    let a = c.args in
-    let l = c.loop-left in
-    let held = leb-true _ _ (told asked ∙ c.if-decide.true) in
-    let greatest : jump_to window a.self (rows_from a.self a.b.now a.i) ≡ suc l.l =
-    greatest_is window ECHO _ _ _ l.l (omega arith) held (omega arith)
-    (λ t q r s. omega (arith, l.invariant.below t (omega arith) r)) in
+    let l = a.j - c.loop-back.back in
+    let held = leb-true c.enough-enough.result (holders window ECHO l a.rows.now) (sym c.is_held.ensures ∙ c.if-is_held.true) in
+    let greatest : jump_to window a.self a.rows.now ≡ suc l =
+    greatest_is window ECHO _ _ _ l (omega arith) (omega (arith, held)) (omega arith)
+    (λ t q r s. omega (arith, c.loop-back.invariant.below t (omega arith) (omega arith))) in
     rw greatest refl
 
-pub loop-left-preserved : goal.loop-left-preserved
-loop-left-preserved c =
-    let asked = (goal.at.loop-left-preserved c).After-decide in
+pub loop-back-preserved : goal.loop-back-preserved
+loop-back-preserved c =
     let a = c.args in
-    let rows = rows_from a.self a.b.now a.i in
-    let l = c.loop-left in
+    let l = a.j - c.loop-back.back in
     record {
       below = λ t q r.
-          elim (ℕ_discrete t l.l) [
+          elim (ℕ_discrete t l) [
             | yes e ↦
-                let held = subst (λ (u : ℕ). a.self.faults + 1 ≤ holders window ECHO u rows) e r in
-                absurd (false≢true (sym c.if-decide.false ∙ sym (told asked) ∙ le-leb _ _ held))
-            | no n ↦ omega (arith, l.invariant.below t q r)
+                let held = subst (λ (u : ℕ). c.enough-enough.result ≤ holders window ECHO u a.rows.now) e r in
+                absurd (false≢true (sym c.if-is_held.false ∙ c.is_held.ensures ∙ le-leb _ _ held))
+            | no n ↦ omega (arith, c.loop-back.invariant.below t q r)
           ];
-      place = omega (arith, l.invariant.place);
-      down = omega (arith, l.invariant.down);
+      above = omega (arith, c.loop-back.invariant.above);
     }
 
 pub returns : goal.returns
 returns c =
     let a = c.args in
-    let l = c.loop-left in
-    let none : jump_to window a.self (rows_from a.self a.b.now a.i) ≡ 0 =
+    let none : jump_to window a.self a.rows.now ≡ 0 =
     greatest_none window ECHO _ _ _
     (λ t q r s.
-    omega (arith, l.invariant.below t (omega arith) r, l.invariant.place, calm window last_tick c.requires.1 (lit< tt) t q r)) in
+    omega (arith, c.loop-back.invariant.below t (omega arith) (omega arith), calm window last_tick c.requires.1 (lit< tt) t q r)) in
     rw none refl

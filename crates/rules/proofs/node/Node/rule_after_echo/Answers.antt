@@ -10,33 +10,15 @@ use Rattle.rules.proofs.node.Node.rule_after_echo.Goals as goal
 pub returns-then-j-self : goal.returns-then-j-self
 returns-then-j-self c = rw (echo_late window last_tick c.requires.1 (lit< tt) (omega (arith, c.if-j-self.true))) refl
 
-pub returns-then-can_echo_by_echoes : goal.returns-then-can_echo_by_echoes
-returns-then-can_echo_by_echoes c =
-    let credited = c.requires.1 in
-    rw (echo_first window last_tick credited, ← c.can_echo_by_echoes.ensures, c.if-can_echo_by_echoes.true) refl
+pub returns-then-can_echo : goal.returns-then-can_echo
+returns-then-can_echo c = rw (echo_first window last_tick c.requires.1, ← c.can_echo.ensures, c.if-can_echo.true) refl
 
 pub returns-then-can_tick : goal.returns-then-can_tick
 returns-then-can_tick c =
-    let past = c in
-    let credited = past.requires.1 in
-    rw (
-      echo_first window last_tick credited,
-      ← past.can_echo_by_echoes.ensures,
-      past.if-can_echo_by_echoes.false,
-      ← c.can_tick.ensures,
-      c.if-can_tick.true,
-    )
+    rw (echo_first window last_tick c.requires.1, ← c.can_echo.ensures, c.if-can_echo.false, ← c.can_tick.ensures, c.if-can_tick.true)
     refl
 
 pub returns-else-can_tick : goal.returns-else-can_tick
 returns-else-can_tick c =
-    let past = c in
-    let credited = past.requires.1 in
-    rw (
-      echo_first window last_tick credited,
-      ← past.can_echo_by_echoes.ensures,
-      past.if-can_echo_by_echoes.false,
-      ← c.can_tick.ensures,
-      c.if-can_tick.false,
-    )
+    rw (echo_first window last_tick c.requires.1, ← c.can_echo.ensures, c.if-can_echo.false, ← c.can_tick.ensures, c.if-can_tick.false)
     c.jump_near.ensures

@@ -1,41 +1,22 @@
 -- `Node::settle` meets its contract: what is said so far with what settling says from here on is what settling says from the start.
 use borrow.Author.Rules.{rules}
-use mathlib.Core.Path.{◌≡◌, refl, sym, ap, ◌∙◌, subst}
+use mathlib.Core.Path.{◌≡◌, sym, ap, ◌∙◌, subst}
 use Prim.Native.Nat.{ℕ, ◌+◌, ◌-◌}
 use native.Mathlib.Omega.{arith}
 use lib.ListN.{length}
-use Rattle.sets.specs.Sets.{mask_bytes}
-use Rattle.evidence.specs.Rows.{rows_at}
 use Rattle.rules.specs.Describe.{window, last_tick, most_firings}
 use Rattle.rules.specs.Rules.{first_rule, fired, said}
-use Rattle.rules.specs.Steps.{rows_from, CanFire}
+use Rattle.rules.specs.Steps.{CanFire}
 use Rattle.rules.proofs.Firing.{can_fire, rest_true, Same, same_trans, fired_same, settle_none, settle_rest}
 use Rattle.rules.proofs.Settlings.{from, ended, fires}
 use Rattle.rules.proofs.node.Node.settle.Goals.{In-loop-fired, After-fire-node, After-say-records, After-rule-rule}
 use Rattle.rules.proofs.node.Node.settle.Goals as goal
 
-pub loop-fired-init : goal.loop-fired-init
-loop-fired-init c =
-    record {
-      node = refl;
-      count = refl;
-      bytes = refl;
-      firings = omega arith;
-      few = omega arith;
-      whole = refl;
-      same = omega arith;
-      space = refl;
-      first = c.requires.first;
-    }
-
-pub shape_of-out-then-is_at_rest : goal.shape_of-out-then-is_at_rest
-shape_of-out-then-is_at_rest c = c.loop-fired.invariant.space
-
 pub returns-then-is_at_rest : goal.returns-then-is_at_rest
 returns-then-is_at_rest c =
     let a = c.args in
     let l = c.loop-fired in
-    let rows = rows_from a.self a.b.now a.i in
+    let rows = a.rows.now in
     let rests = rest_true l.rule (sym c.is_at_rest.ensures ∙ c.if-is_at_rest.true) in
     ended l.invariant (settle_rest window last_tick rows (most_firings - l.fired) l.node (sym l.invariant.first ∙ rests))
 
@@ -45,7 +26,7 @@ can c =
     let a = c.args in
     let l = c.loop-fired in
     subst (CanFire last_tick l.node) (sym l.invariant.first)
-    (can_fire window last_tick (rows_from a.self a.b.now a.i) l.node)
+    (can_fire window last_tick a.rows.now l.node)
 
 -- by search, which meets it for any rule: that the rule said is the first one shows in `counted`
 pub say-records-requires : goal.say-records-requires
@@ -78,12 +59,9 @@ next : (c : After-rule-rule) →
     let a = c.args in
     let l = c.loop-fired in
     Same (fired l.node l.rule) a.self
-    → c.rule-rule.result ≡ first_rule window last_tick (rows_from a.self a.b.now a.i) (fired l.node l.rule)
+    → c.rule-rule.result ≡ first_rule window last_tick a.rows.now (fired l.node l.rule)
 next c same =
-    let a = c.args in
-    let l = c.loop-fired in
-    (rw c.fire-node.ensures at c.rule-rule.ensures)
-    ∙ ap (λ (n : ℕ). first_rule window last_tick (rows_at mask_bytes n a.b.now a.i) (fired l.node l.rule)) same.lines
+    rw c.fire-node.ensures at c.rule-rule.ensures
 
 pub loop-fired-preserved : goal.loop-fired-preserved
 loop-fired-preserved c =
@@ -93,13 +71,10 @@ loop-fired-preserved c =
     (fires l.invariant _ (omega (arith, c.loop-fired-test.true)) (sym c.is_at_rest.ensures ∙ c.if-is_at_rest.false)
     c.rule-rule.result (next c (stays at.After-fire-node)))
 
-pub shape_of-out : goal.shape_of-out
-shape_of-out c = c.loop-fired.invariant.space
-
 pub returns : goal.returns
 returns c =
     let a = c.args in
     let l = c.loop-fired in
-    let rows = rows_from a.self a.b.now a.i in
+    let all : l.fired ≡ most_firings = omega arith in
     let none : most_firings - l.fired ≡ 0 = omega arith in
-    ended l.invariant (ap (λ (n : ℕ). from rows n l.node) none ∙ settle_none window last_tick rows l.node)
+    rw all at (ended l.invariant (ap (λ (n : ℕ). from a.rows.now n l.node) none ∙ settle_none window last_tick a.rows.now l.node))

@@ -1,36 +1,29 @@
--- `Mask::is_below` meets its contract: the power of 2 lies above both words, in the high one, or in the low one.
-use borrow.Author.Rules.{rules}
-use mathlib.Core.Path.{sym, ap, ap₂, ◌∙◌}
-use Prim.Native.Nat.{◌-◌, ◌^◌, ◌≤◌, ◌<◌}
-use native.Mathlib.Nat.{lt_of_lt_of_le}
+-- `Mask::is_below` meets its contract: what is left of a word without its low bits is what is left of the mask.
+use mathlib.Core.Path.{◌≡◌, sym, ap, ◌∙◌}
+use Prim.Native.Nat.{ℕ, ◌+◌, ◌-◌, ◌/◌, ◌^◌}
+use Rattle.std.proofs.Common.{pow-add}
+use native.Mathlib.Nat.{div-div-eq-div-mul}
 use native.Mathlib.Omega.{arith}
-use borrow.Author.Tests.{lt-ltb, le-ltb}
-use lib.Dec.{ltb}
-use lib.Pow.{pow_mono}
-use Rattle.sets.specs.Sets.{word_bits, mask_bits, mask_by}
-use Rattle.sets.proofs.Masks.{lone}
-use Rattle.sets.proofs.Words.{in_two_words, alone, not_below, below_high}
+use lib.Dec.{eqb}
+use Rattle.sets.specs.Sets.{word_bits, mask_by}
+use Rattle.sets.proofs.Masks.{below_as_shifted}
 use Rattle.sets.proofs.mask.Mask.is_below.Goals as goal
-
-pub returns-then-k-ge-BITS : goal.returns-then-k-ge-BITS
-returns-then-k-ge-BITS c =
-    let a = c.args in
-    let wide : mask_bits ≤ a.k = omega arith in
-    let small : mask_by a.self < 2 ^ mask_bits = in_two_words word_bits a.self.high (search rules) (search rules) in
-    sym (lt-ltb (mask_by a.self) (2 ^ a.k) (lt_of_lt_of_le small (pow_mono wide)))
 
 pub returns-then-k-ge-WORD : goal.returns-then-k-ge-WORD
 returns-then-k-ge-WORD c =
     let a = c.args in
-    ap (ltb a.self.high) (lone word_bits (a.k - word_bits) (omega arith))
-    ∙ below_high word_bits a.self.high (search rules) a.k (omega arith)
+    let m = mask_by a.self in
+    let rest = a.k - word_bits in
+    let high : c.word_at.result ≡ m / 2 ^ word_bits = omega arith in
+    let whole : word_bits + rest ≡ a.k = omega arith in
+    let left =
+    ap (λ (x : ℕ). x / 2 ^ rest) high ∙ div-div-eq-div-mul m (2 ^ word_bits) (2 ^ rest)
+    ∙ ap (λ (x : ℕ). m / x) (sym (pow-add 2 word_bits rest) ∙ ap (λ (x : ℕ). 2 ^ x) whole) in
+    ap (λ (x : ℕ). eqb x 0) left ∙ below_as_shifted m a.k
 
-pub returns-then-self-eq0 : goal.returns-then-self-eq0
-returns-then-self-eq0 c =
+pub returns-then-word_at-eq0 : goal.returns-then-word_at-eq0
+returns-then-word_at-eq0 c =
     let a = c.args in
-    ap₂ ltb (sym (alone word_bits a.self.high (search rules) (search rules))) (lone word_bits a.k (omega arith))
-
-pub returns : goal.returns
-returns c =
-    let a = c.args in
-    sym (le-ltb (mask_by a.self) (2 ^ a.k) (not_below word_bits a.self.high (search rules) a.k (omega arith) (omega arith)))
+    let m = mask_by a.self in
+    let low : c.word_at-then-word_at-eq0.result ≡ m = omega arith in
+    ap (λ (x : ℕ). eqb (x / 2 ^ a.k) 0) low ∙ below_as_shifted m a.k

@@ -24,7 +24,7 @@ returns-then-up-w c =
 pub returns-else-up-w : goal.returns-else-up-w
 returns-else-up-w c =
     let a = c.args in
-    ap (λ (x : ℕ). record { top = a.t; mask = x }) c.of.ensures
+    ap (λ (x : ℕ). record { top = a.t; mask = x }) c.from.ensures
     ∙ sym (insert_far a.w (held_by a.self) a.t c.if-top-t.true c.if-up-w.false)
 
 pub returns-then-down-w : goal.returns-then-down-w

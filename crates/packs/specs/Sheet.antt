@@ -97,6 +97,11 @@ abbrev pub told_by : Result ℕ Refusal → SheetTold
 told_by (Ok count) = record { number = 0; count = count }
 told_by (Err why) = refused_sheet (number_of why)
 
+-- an answer of the entries themselves, which is how the question reads a sheet: it says how many there are
+abbrev pub counted : Result (List Entry) Refusal → Result ℕ Refusal
+counted (Ok es) = Ok (length es)
+counted (Err why) = Err why
+
 -- the entry on a line of a sheet that is taken; all 0 of a sheet that is refused, and past the last line
 abbrev pub no_entry : Entry
 no_entry = record { pack = 0; first = 0; end = 0 }

@@ -2,7 +2,7 @@
 ghost use Rattle.std.specs.Prelude.{◌≡◌, ◌+◌, ◌≤◌, length, IfOk};
 ghost use Rattle.packs.specs.Number.{verdict_of};
 ghost use Rattle.packs.specs.Question.{entry_in_force};
-ghost use Rattle.packs.specs.Sheet.{entry_size, entry_in_bytes, backward, sheet_number, told_by, sheet_told, entry_on};
+ghost use Rattle.packs.specs.Sheet.{entry_size, entry_in_bytes, backward, sheet_number, told_by, counted, sheet_told, entry_on};
 ghost use Rattle.packs.specs.Sheet.{entries_of as Sheet·entries_of};
 
 use crate::answer::Refusal;
@@ -53,9 +53,10 @@ impl Entry {
 }
 
 // The entries of a sheet that is taken.
-#[tactic(auto, unfolding(crate::specs::Sheet::sheet_number))]
+#[tactic(auto, using(crate::proofs::Runs::length_entries_in), unfolding(crate::specs::Sheet::sheet_number, crate::specs::Sheet::sheet_told))]
 pub(crate) fn entries_of(b: &[u8]) -> Result<Entries<'_>, Refusal>
-    ensures { (verdict_of result ≡ sheet_number b.now) × IfOk result (λ es. es ≡ Sheet·entries_of b.now) }
+    ensures { (verdict_of result ≡ sheet_number b.now) × IfOk result (λ es. es ≡ Sheet·entries_of b.now)
+        × (told_by (counted result) ≡ sheet_told b.now) }
 {
     if b.len() < ENTRIES {
         return Err(Refusal::Layout);

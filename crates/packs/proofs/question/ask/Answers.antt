@@ -4,7 +4,7 @@ use Rattle.std.proofs.lemmas.Result.{err_from_is_err_and}
 use Rattle.rules.specs.Describe.{last_tick}
 use Rattle.node.specs.Calls.{Reading, reading}
 use Rattle.node.specs.Layout.{layout}
-use Rattle.packs.specs.Question.{licence, PackTold}
+use Rattle.packs.specs.Question.{PackTold}
 use Rattle.packs.proofs.Told.{told_unread, told_refused, pack_told_lem}
 use Rattle.packs.proofs.question.ask.Goals.{In_ok-tick}
 use Rattle.packs.proofs.question.ask.Goals as goal

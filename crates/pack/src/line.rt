@@ -4,9 +4,9 @@ ghost use Rattle.rules.specs.Describe.{last_tick};
 ghost use Rattle.node.specs.Layout.{layout};
 ghost use Rattle.text.specs.Page.{Fits, Wrote};
 ghost use Rattle.text.specs.Puts.{Puts};
-ghost use Rattle.packs.specs.Number.{licence_of};
+ghost use Rattle.packs.specs.Number.{licence_of, number_of};
 ghost use Rattle.packs.specs.Question.{asked_by, pack_told};
-ghost use Rattle.pack.specs.Line.{standing, words, line, words_room, line_room};
+ghost use Rattle.pack.specs.Line.{standing, refusal, words, line, words_room, line_room};
 
 use packs::answer::{Licence, Refusal};
 use packs::question::ask;
@@ -32,17 +32,25 @@ fn standing(how: Licence) -> &'static [u8]
     }
 }
 
+// Puts the number of a refusal.
+#[tactic(auto, unfolding(crate::specs::Line::refusal))]
+fn put_refusal(page: &mut Page<'_>, why: Refusal)
+    requires { Fits page.old words_room }
+    ensures { Wrote page.old (refusal (number_of why)) words_room page.new }
+{
+    page.put(REFUSED);
+    page.put_decimal(u32::from(why));
+}
+
 // Puts what an answer says: the number of a refusal, or how the pack stands.
+#[tactic(auto, using(packs::proofs::Told::refusal), unfolding(crate::specs::Line::words))]
 fn put_words(page: &mut Page<'_>, answer: Result<Licence, Refusal>)
     requires { Fits page.old words_room }
     ensures { Wrote page.old (words (asked_by answer)) words_room page.new }
 {
     match answer {
         Ok(how) => page.put(standing(how)),
-        Err(why) => {
-            page.put(REFUSED);
-            page.put_decimal(u32::from(why));
-        }
+        Err(why) => put_refusal(page, why),
     }
 }
 

@@ -5,6 +5,9 @@
 mod file;
 mod line;
 
+ghost use Rattle.std.specs.Prelude.{◌≤◌, IfOk, length};
+ghost use Rattle.pack.specs.File.{Within};
+
 use file::read_file;
 use line::{LINE_ROOM, show};
 use node::image::MOST_IMAGE;
@@ -35,7 +38,9 @@ fn is_given(rt: &impl Env, place: usize) -> bool {
 }
 
 // An argument, in room that is lent for it: one that is not there or too long counts as empty.
-fn argument<'a>(rt: &impl Env, place: usize, room: &'a mut [u8]) -> &'a [u8] {
+fn argument<'a>(rt: &impl Env, place: usize, room: &'a mut [u8]) -> &'a [u8]
+    ensures { length result.now ≤ length room.old }
+{
     let size = rt.arg(place, room).unwrap_or(0);
     &room[..size]
 }
@@ -51,7 +56,9 @@ fn read_named<'a, R: Env + Files + Print>(
     rt: &R,
     place: usize,
     bytes: &'a mut [u8],
-) -> io::Result<Option<&'a [u8]>> {
+) -> io::Result<Option<&'a [u8]>>
+    ensures { IfOk result (λ contents. Within contents (length bytes.old)) }
+{
     let mut room = [0u8; ARGUMENT_ROOM];
     let name = argument(rt, place, &mut room);
     let contents = read_file(rt, name, bytes);

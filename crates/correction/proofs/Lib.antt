@@ -9,6 +9,6 @@ pub mod Places
 pub mod Ranges
 pub mod Ranks
 pub mod Signs
-pub mod Chains
+pub mod Steps
 pub mod Theorems
 pub mod Told

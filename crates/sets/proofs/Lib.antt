@@ -6,3 +6,4 @@ pub mod Masks
 pub mod Members
 pub mod Single
 pub mod Wider
+pub mod Words

@@ -22,7 +22,7 @@ fn below(readings: &[u32], expected: u32, d: i64) -> usize
 }
 
 // The difference of rank k: the greatest that has at most k below it. What is below is counted only for one above the best so far. It goes
-// from the last reading to the first: so readings that ascend by their place are counted once.
+// from the last reading to the first.
 pub(crate) fn ranked(readings: &[u32], expected: u32, k: usize) -> i64
     ensures { result ≡ Middle·ranked k (differences expected readings.now) }
 {
